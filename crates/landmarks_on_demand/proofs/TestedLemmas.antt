@@ -126,7 +126,7 @@ tested task atoms v f numbered one found isnt same =
       fair = fair;
       dead_fair = dead;
       admissible = λ s end plan runs goal. (fair_ones_are_lower_bounds task atoms h numbered over (none-closed task atoms) fair).ground_bound s end plan runs goal;
-      dead_ends = λ s end plan is runs.
+      dead_ends = λ s is end plan runs.
           let both = and_parts v.is_dead_fair (nat_le 1 (value_by v s)) is in
           (dead_fair_ones_report_dead_ends task atoms h numbered over (none-closed task atoms) (dead both.0)).no_ground_plan s end plan both.1 runs;
     }

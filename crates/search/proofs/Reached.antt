@@ -213,7 +213,7 @@ module _ {S Store : Type 0} (t : System S ℕ) (class_of : S → S) (value : S �
     (one_each : length old.nodes.items ≡ length states)
     (nodes : AreNodes t class_of value is_dead (found_of states old.nodes.items) (waiting_in old.open_list)) (turn : IsTurn t value (found_of states old.nodes.items) i)
     (others : AreClosedBut t class_of (found_of states old.nodes.items) i)
-    (is_current : ℕ → Type 0) (s : S) (now : Node) (child : IsChild t value is_dead turn.found i s now) (estimate : Option ℕ) (of : IsValueUnlessDead value is_dead s estimate) (rest : Option Rest) where
+    (is_current : ℕ → Type 0) (s : S) (now : Node) (child : IsChild t value is_dead turn.found i s now) (estimate : Option ℕ) (of : IsValueUnlessDead value is_dead s estimate) (rest : Rest) where
   pub record IsTaken : Type 0 where
     pub each : length new.nodes.items ≡ length (states_of new.store)
     pub stepped : Stepped t class_of value is_dead (found_of states old.nodes.items) (found_of (states_of new.store) new.nodes.items) (waiting_in new.open_list) i now.action s

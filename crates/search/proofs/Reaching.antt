@@ -10,7 +10,6 @@ use Rattle.search.specs.declared.listing.Place.{Place}
 use Rattle.search.specs.declared.listing.Place.TheVariants.{New, Listed, Alike}
 use Rattle.search.specs.declared.nodes.Node.{Node}
 use Rattle.search.specs.declared.bases.Rest.{Rest}
-use Rattle.search.specs.declared.on_demand.Basis.{Basis}
 use Rattle.search.specs.declared.progress.Progress.{Progress}
 use Rattle.search.specs.declared.turns.Standing.{Standing}
 use Rattle.search.specs.declared.turns.Standing.TheVariants.{Dead, Based}
@@ -19,17 +18,17 @@ use Rattle.search.specs.DeadEnds.{ReportsDeadEnds, IsValueUnlessDead}
 use Rattle.search.specs.Listing.{IsPlacedBy}
 use Rattle.search.specs.Outcome.{is_expanded_status, is_dead_status, is_marked_dead}
 use Rattle.search.specs.Nodes.{status_of_reached, status_again, parent_of, Found, found_of, dearest, AreSingle, AreNodes, AreClosedBut, IsTurn}
-use Rattle.search.specs.OnDemand.{OnDemand, rest_at, rest_by, basis_at, IsBased, value_on, AreValued, HoldsBy}
+use Rattle.search.specs.OnDemand.{noted_at, IsNoted, IsRestOf, value_on, AreValued, HoldsBy}
 use Rattle.search.specs.OpenList.{waiting_in, IsOpenList}
 use Rattle.search.specs.Progress.{IsReachedCheaper, TakesPlace}
-use Rattle.search.specs.Standing.{rest_of, IsEstimateBy, IsStandingAt}
+use Rattle.search.specs.Standing.{rest_value, IsEstimateBy, IsStandingAt}
 use Rattle.search.proofs.Linked.{length-found_of, found_of-get, get-found_of, after_new, after_cheaper, after_replaced, cases_push, cases_set, set_was}
 use Rattle.search.proofs.NodesLemmas.{Stepped}
 use Rattle.search.proofs.Raised.{nodes_alike, turn_alike}
 use Rattle.search.proofs.Reached.{IsChild, taken}
 use Rattle.search.proofs.Steps.{marked_by}
 use Rattle.search.proofs.Updated.{with_other}
-use Rattle.search.proofs.Valued.{AreShown, IsNamed, IsStored, stored_by, named_basis, valued_same, new_value, new_dead, reported_new, valued_new}
+use Rattle.search.proofs.Valued.{valued_same, new_value, new_dead, reported_new, valued_new}
 
 -- the node is that of a state to which its action leads from the one that is being expanded, and which has this estimate
 pub record IsStepTo (t : System (List Bool) ℕ) (one : Found (List Bool)) (i : ℕ) (s : List Bool) (now : Node) (result : Option ℕ) : Type 0 where
@@ -60,20 +59,20 @@ pub record HasReached {Store : Type 0} (t : System (List Bool) ℕ) (class_of : 
   pub within : length (states_of new.store) ≤ max_states
   pub heap : IsOpenList old.open_list → IsOpenList new.open_list
   pub single : AreSingle (waiting_in old.open_list) → AreSingle (waiting_in new.open_list)
-  pub rest : rest_at new.bases i ≡ rest_at old.bases i
+  pub noted : noted_at new.bases i ≡ noted_at old.bases i
 
 -- what a listed state stands on gives it the value by which the search stands
-listed_value : (t : System (List Bool) ℕ) (estimate : List Bool → ℕ) (reported : List Bool → Bool) (shown : OnDemand (List Bool)) (nodes : List (Found (List Bool))) (bases : Bases) (value : List Bool → ℕ) (is_dead : List Bool → Bool)
-    → AreValued t estimate reported shown nodes bases value is_dead → (k : ℕ) (n : Found (List Bool)) → slice_get nodes k ≡ Some n → is_dead n.state ≡ false
-    → (result : Option ℕ) → IsValueUnlessDead (value_on estimate (rest_at bases k)) reported n.state result → IsValueUnlessDead value is_dead n.state result
-listed_value t estimate reported shown nodes bases value is_dead valued k n at alive None dead = absurd (false≢true (sym (valued.alive k n at alive) ∙ dead))
-listed_value t estimate reported shown nodes bases value is_dead valued k n at alive (Some e) (living, is, fits) = (alive, is ∙ sym (valued.value_is k n at alive), fits)
+listed_value : (t : System (List Bool) ℕ) (estimate : List Bool → ℕ) (reported : List Bool → Bool) (answers : Bool) (nodes : List (Found (List Bool))) (bases : Bases) (value : List Bool → ℕ) (is_dead : List Bool → Bool)
+    → AreValued t estimate reported answers nodes bases value is_dead → (k : ℕ) (n : Found (List Bool)) → slice_get nodes k ≡ Some n → is_dead n.state ≡ false
+    → (result : Option ℕ) → IsValueUnlessDead (value_on estimate (noted_at bases k)) reported n.state result → IsValueUnlessDead value is_dead n.state result
+listed_value t estimate reported answers nodes bases value is_dead valued k n at alive None dead = absurd (false≢true (sym (valued.alive k n at alive) ∙ dead))
+listed_value t estimate reported answers nodes bases value is_dead valued k n at alive (Some e) (living, is, fits) = (alive, is ∙ sym (valued.value_is k n at alive), fits)
 
-module _ {Store : Type 0} (t : System (List Bool) ℕ) (class_of : List Bool → List Bool) (estimate : List Bool → ℕ) (reported : List Bool → Bool) (shown : OnDemand (List Bool)) (states_of : Store → List (List Bool)) (states : List (List Bool))
+module _ {Store : Type 0} (t : System (List Bool) ℕ) (class_of : List Bool → List Bool) (estimate : List Bool → ℕ) (reported : List Bool → Bool) (answers : Bool) (states_of : Store → List (List Bool)) (states : List (List Bool))
     (old new : Progress Store) (i max_states : ℕ) (one_each : length old.nodes.items ≡ length states) (value : List Bool → ℕ) (is_dead : List Bool → Bool)
-    (valued : AreValued t estimate reported shown (found_of states old.nodes.items) old.bases value is_dead)
+    (valued : AreValued t estimate reported answers (found_of states old.nodes.items) old.bases value is_dead)
     (nodes : AreNodes t class_of value is_dead (found_of states old.nodes.items) (waiting_in old.open_list)) (turn : IsTurn t value (found_of states old.nodes.items) i)
-    (others : AreClosedBut t class_of (found_of states old.nodes.items) i) (admissible : IsAdmissible t estimate) (reports : ReportsDeadEnds t reported) (laws : AreShown t shown)
+    (others : AreClosedBut t class_of (found_of states old.nodes.items) i) (admissible : IsAdmissible t estimate) (reports : ReportsDeadEnds t reported)
     (is_current : ℕ → Type 0) (s : List Bool) (now : Node) (result : Option ℕ) (step : IsStepTo t turn.found i s now result) (within : length states ≤ max_states) where
   abbrev found : List (Found (List Bool))
   found = found_of states old.nodes.items
@@ -97,27 +96,19 @@ module _ {Store : Type 0} (t : System (List Bool) ℕ) (class_of : List Bool →
   parent_before : (place : ℕ) → place ≡ length states → i ≢ place
   parent_before place last is = absurd (omega (arith, is, last, slice_get_within states i turn.found.state (found_of-get states old.nodes.items i turn.found turn.occurs).0))
 
-  abbrev parents : Option Basis
-  parents = basis_at old.bases i
-
-  abbrev rest : Option Rest
-  rest = rest_by shown parents s
-
   -- a state that was not listed is at this place now
-  reached_anew : (fits : (r : Rest) → rest ≡ Some r → r.value < 2 ^ 63) (place : Place) → IsPlacedBy class_of is_current states (states_of old.store) s max_states (Some place) → IsReachedCheaper old.nodes.items now.cost place
-      → (is_new : ¬ Contains states s) → IsValueUnlessDead (value_on estimate rest) reported s result → TakesPlace states_of old new s now result rest max_states place
-      → (j : ℕ) → IsBased old.bases new.bases j rest → i ≢ j
+  reached_anew : (rest : Rest) (right : IsRestOf answers t s rest.value) (place : Place) → IsPlacedBy class_of is_current states (states_of old.store) s max_states (Some place) → IsReachedCheaper old.nodes.items now.cost place
+      → (is_new : ¬ Contains states s) → IsValueUnlessDead (value_on estimate rest.value) reported s result → TakesPlace states_of old new s now result rest max_states place
+      → (j : ℕ) → IsNoted old.bases new.bases j rest.value → i ≢ j
       → ((k : ℕ) (n : Found (List Bool)) → slice_get after k ≡ Some n → ((k ≡ j) × (n.state ≡ s)) ⊎ ((k ≢ j) × (slice_get found k ≡ Some n)))
-      → HoldsBy t estimate reported shown after new.bases IsReached
-  reached_anew fits place placed cheaper is_new of takes j based elsewhere cases =
-      let stored : IsStored rest = stored_by shown old.bases i s in
-      let named : IsNamed shown parents = named_basis t estimate reported shown found old.bases value is_dead valued i in
+      → HoldsBy t estimate reported answers after new.bases IsReached
+  reached_anew rest right place placed cheaper is_new of takes j noted elsewhere cases =
       let other : (k : ℕ) (n : Found (List Bool)) → slice_get found k ≡ Some n → n.state ≢ s =
       λ k n at is. is_new (subst (λ (x : List Bool). Contains states x) is (Contains-got states k n.state (found_of-get states old.nodes.items k n at).0)) in
-      let v : List Bool → ℕ = new_value t estimate reported shown value is_dead s found old.bases valued other parents stored named fits admissible reports laws in
-      let d : List Bool → Bool = new_dead t estimate reported shown value is_dead s found old.bases valued other parents stored named fits admissible reports laws in
-      let of' : IsValueUnlessDead v d s result = reported_new t estimate reported shown value is_dead s found old.bases valued other parents stored named fits admissible reports laws result of in
-      let same : (k : ℕ) (n : Found (List Bool)) → slice_get found k ≡ Some n → v n.state ≡ value n.state = λ k n at. with_other value s (value_on estimate rest s) n.state (other k n at) in
+      let v : List Bool → ℕ = new_value t estimate reported answers value is_dead s found old.bases valued other rest.value right admissible reports in
+      let d : List Bool → Bool = new_dead t estimate reported answers value is_dead s found old.bases valued other rest.value right admissible reports in
+      let of' : IsValueUnlessDead v d s result = reported_new t estimate reported answers value is_dead s found old.bases valued other rest.value right admissible reports result of in
+      let same : (k : ℕ) (n : Found (List Bool)) → slice_get found k ≡ Some n → v n.state ≡ value n.state = λ k n at. with_other value s (value_on estimate rest.value s) n.state (other k n at) in
       let same_dead : (k : ℕ) (n : Found (List Bool)) → slice_get found k ≡ Some n → d n.state ≡ is_dead n.state = λ k n at. with_other is_dead s (reported s) n.state (other k n at) in
       let nodes' = nodes_alike value v is_dead d found same same_dead t class_of (waiting_in old.open_list) nodes in
       let turn' = turn_alike value v is_dead d found same same_dead t i turn in
@@ -126,61 +117,64 @@ module _ {Store : Type 0} (t : System (List Bool) ℕ) (class_of : List Bool →
       record {
         value = v;
         is_dead = d;
-        valued = valued_new t estimate reported shown value is_dead s found old.bases valued other parents stored named fits admissible reports laws after new.bases j based cases;
-        holds = record { each = is.each; stepped = is.stepped; within = is.within; heap = is.heap; single = is.single; rest = based.others i elsewhere };
+        valued = valued_new t estimate reported answers value is_dead s found old.bases valued other rest.value right admissible reports after new.bases j noted cases;
+        holds = record { each = is.each; stepped = is.stepped; within = is.within; heap = is.heap; single = is.single; noted = noted.others i elsewhere };
       }
 
-  -- a number that fits where something is said of what a state stands on
-  rest_fits : (standing : Standing) → IfSome (rest_of standing) (λ r. r.value < 2 ^ 63) → standing ≡ Based rest → (r : Rest) → rest ≡ Some r → r.value < 2 ^ 63
-  rest_fits standing fits is r some = subst (λ (o : Option Rest). IfSome o (λ x. x.value < 2 ^ 63)) (ap rest_of is ∙ some) fits
+  -- what it stands on is what it rests on
+  right_of : (rest : Rest) (standing : Standing) → rest.value ≡ rest_value standing → (other : Rest) → IsRestOf answers t s other.value → standing ≡ Based other → IsRestOf answers t s rest.value
+  right_of rest standing same other right is = subst (IsRestOf answers t s) (sym (same ∙ ap rest_value is)) right
+
+  estimate_of : (rest : Rest) (standing : Standing) → rest.value ≡ rest_value standing → (other : Rest) → standing ≡ Based other → IsEstimateBy estimate reported s standing result
+      → IsValueUnlessDead (value_on estimate rest.value) reported s result
+  estimate_of rest standing same other is of =
+      subst (λ (v : ℕ). IsValueUnlessDead (value_on estimate v) reported s result) (sym (same ∙ ap rest_value is)) (subst (λ (x : Standing). IsEstimateBy estimate reported s x result) is of)
 
   pub reached_placed : (place : Place) → IsPlacedBy class_of is_current states (states_of old.store) s max_states (Some place) → IsReachedCheaper old.nodes.items now.cost place
-      → (standing : Standing) → IfSome (rest_of standing) (λ r. r.value < 2 ^ 63) → IsStandingAt shown old.nodes.items old.bases i s place standing → IsEstimateBy estimate reported s standing result
-      → TakesPlace states_of old new s now result (rest_of standing) max_states place → HoldsBy t estimate reported shown after new.bases IsReached
-  reached_placed (New place) placed cheaper standing fits is of takes =
-      let takes' = subst (λ (x : Standing). TakesPlace states_of old new s now result (rest_of x) max_states (New place)) is takes in
+      → (standing : Standing) → IsStandingAt answers t old.nodes.items old.bases s place standing → IsEstimateBy estimate reported s standing result
+      → (rest : Rest) → rest.value ≡ rest_value standing → TakesPlace states_of old new s now result rest max_states place → HoldsBy t estimate reported answers after new.bases IsReached
+  reached_placed (New place) placed cheaper standing (other, right, is) of rest same takes =
       let at_end : place ≡ length found = placed.3 ∙ sym (length-found_of states old.nodes.items one_each) in
-      let grown = after_new states old.nodes.items s now (states_of new.store) new.nodes.items one_each (takes'.states ∙ placed.2) takes'.nodes in
-      reached_anew (rest_fits standing fits is) (New place) placed cheaper placed.0 (subst (λ (x : Standing). IsEstimateBy estimate reported s x result) is of) takes' place takes'.bases (parent_before place placed.3)
+      let grown = after_new states old.nodes.items s now (states_of new.store) new.nodes.items one_each (takes.states ∙ placed.2) takes.nodes in
+      reached_anew rest (right_of rest standing same other right is) (New place) placed cheaper placed.0 (estimate_of rest standing same other is of) takes place takes.bases (parent_before place placed.3)
       (λ k n at. cases_push found m place at_end k n (ap (λ (ns : List (Found (List Bool))). slice_get ns k) (sym grown) ∙ at))
-  reached_placed (Alike place) placed cheaper standing fits is of (inl replaces) =
-      let replaces' = subst (λ (x : Standing). TakesPlace states_of old new s now result (rest_of x) max_states (Alike place)) is (inl replaces) in
+  reached_placed (Alike place) placed cheaper standing (other, right, is) of rest same (inl replaces) =
       let n : Found (List Bool) = record { state = placed.1.other; node = replaces.other } in
       let stood : slice_get found place ≡ Some n = get-found_of states old.nodes.items place placed.1.other replaces.other placed.1.there replaces.there in
       let put = after_replaced states old.nodes.items s now (states_of new.store) new.nodes.items place n stood (replaces.states ∙ ap (λ (ss : List (List Bool)). set ss place s) placed.3) replaces.nodes in
-      reached_anew (rest_fits standing fits is) (Alike place) placed cheaper placed.0 (subst (λ (x : Standing). IsEstimateBy estimate reported s x result) is of) replaces' place
-      (subst (λ (x : Standing). IsBased old.bases new.bases place (rest_of x)) is replaces.bases) (parent_elsewhere place cheaper.0 cheaper.1 cheaper.2)
+      reached_anew rest (right_of rest standing same other right is) (Alike place) placed cheaper placed.0 (estimate_of rest standing same other is of) (inl replaces) place
+      replaces.bases (parent_elsewhere place cheaper.0 cheaper.1 cheaper.2)
       (λ k x at. cases_set found m place n stood k x (ap (λ (ns : List (Found (List Bool))). slice_get ns k) (sym put) ∙ at))
-  reached_placed (Alike place) placed cheaper standing fits is of (inr appends) =
-      let appends' = subst (λ (x : Standing). TakesPlace states_of old new s now result (rest_of x) max_states (Alike place)) is (inr appends) in
+  reached_placed (Alike place) placed cheaper standing (other, right, is) of rest same (inr appends) =
       let last = length old.nodes.items in
       let at_end : last ≡ length found = one_each ∙ sym (length-found_of states old.nodes.items one_each) in
       let grown = after_new states old.nodes.items s now (states_of new.store) new.nodes.items one_each (appends.states ∙ ap (λ (ss : List (List Bool)). ss ++ s ∷ []) placed.3) appends.nodes in
-      reached_anew (rest_fits standing fits is) (Alike place) placed cheaper placed.0 (subst (λ (x : Standing). IsEstimateBy estimate reported s x result) is of) appends' last
-      (subst (λ (x : Standing). IsBased old.bases new.bases last (rest_of x)) is appends.bases) (parent_before last one_each)
+      reached_anew rest (right_of rest standing same other right is) (Alike place) placed cheaper placed.0 (estimate_of rest standing same other is of) (inr appends) last
+      appends.bases (parent_before last one_each)
       (λ k n at. cases_push found m last at_end k n (ap (λ (ns : List (Found (List Bool))). slice_get ns k) (sym grown) ∙ at))
-  reached_placed (Listed place) placed cheaper standing fits (node, at, is) of takes =
+  reached_placed (Listed place) placed cheaper standing (node, kept, at, noted, is) of rest same takes =
       let n : Found (List Bool) = record { state = s; node = node } in
       let stood : slice_get found place ≡ Some n = get-found_of states old.nodes.items place s node placed.0 at in
       let marked : is_marked_dead node ≡ is_dead s = nodes.marked place n stood in
       let of' : IsValueUnlessDead value is_dead s result =
       elim (is_dead s) as (λ (b : Bool). is_dead s ≡ b → IsValueUnlessDead value is_dead s result) [
         | true ↦ λ dead.
-            let it : standing ≡ Dead = is ∙ ap (λ (b : Bool). if b then Dead else Based (rest_at old.bases place)) (marked ∙ dead) in
+            let it : standing ≡ Dead = is ∙ ap (λ (b : Bool). if b then Dead else Based kept) (marked ∙ dead) in
             let none : result ≡ None = subst (λ (x : Standing). IsEstimateBy estimate reported s x result) it of in
             subst (λ (r : Option ℕ). IsValueUnlessDead value is_dead s r) (sym none) dead
         | false ↦ λ alive.
-            let it : standing ≡ Based (rest_at old.bases place) = is ∙ ap (λ (b : Bool). if b then Dead else Based (rest_at old.bases place)) (marked ∙ alive) in
-            listed_value t estimate reported shown found old.bases value is_dead valued place n stood alive result (subst (λ (x : Standing). IsEstimateBy estimate reported s x result) it of)
+            let it : standing ≡ Based kept = is ∙ ap (λ (b : Bool). if b then Dead else Based kept) (marked ∙ alive) in
+            listed_value t estimate reported answers found old.bases value is_dead valued place n stood alive result
+            (subst (λ (v : ℕ). IsValueUnlessDead (value_on estimate v) reported s result) noted (subst (λ (x : Standing). IsEstimateBy estimate reported s x result) it of))
       ] refl in
-      let is_taken = taken t class_of value is_dead states_of states old new i max_states one_each nodes turn others is_current s now (child_of t value is_dead turn.found i s now result step of') result of' (rest_of standing)
+      let is_taken = taken t class_of value is_dead states_of states old new i max_states one_each nodes turn others is_current s now (child_of t value is_dead turn.found i s now result step of') result of' rest
       within (Listed place) placed cheaper takes in
       let again : Node = record now { status = status_again takes.known.status result } in
       let put = after_cheaper states old.nodes.items s again (states_of new.store) new.nodes.items place n stood refl (takes.states ∙ placed.1) takes.nodes in
       record {
         value = value;
         is_dead = is_dead;
-        valued = valued_same t estimate reported shown found after old.bases new.bases value is_dead (λ k. ap (λ (b : Bases). rest_at b k) takes.bases)
+        valued = valued_same t estimate reported answers found after old.bases new.bases value is_dead (λ k. ap (λ (b : Bases). noted_at b k) takes.bases)
             (λ k x at_x. set_was found (record { state = s; node = again }) place n stood refl k x (ap (λ (ns : List (Found (List Bool))). slice_get ns k) (sym put) ∙ at_x)) valued;
-        holds = record { each = is_taken.each; stepped = is_taken.stepped; within = is_taken.within; heap = is_taken.heap; single = is_taken.single; rest = ap (λ (b : Bases). rest_at b i) takes.bases };
+        holds = record { each = is_taken.each; stepped = is_taken.stepped; within = is_taken.within; heap = is_taken.heap; single = is_taken.single; noted = ap (λ (b : Bases). noted_at b i) takes.bases };
       }

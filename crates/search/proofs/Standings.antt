@@ -11,4 +11,4 @@ use Rattle.search.proofs.Steps.{value_fits}
 pub estimate_fits : {S : Type 0} (estimate : S → ℕ) (reported : S → Bool) (s : S) (standing : Standing) (result : Option ℕ) (cost : ℕ) → IsEstimateBy estimate reported s standing result
     → cost < 2 ^ 63 → IfSome result (λ v. cost + v < 2 ^ 64)
 estimate_fits estimate reported s Dead result cost none small = subst (λ (r : Option ℕ). IfSome r (λ v. cost + v < 2 ^ 64)) (sym none) tt
-estimate_fits estimate reported s (Based rest) result cost of small = value_fits (value_on estimate rest) reported s result cost of small
+estimate_fits estimate reported s (Based rest) result cost of small = value_fits (value_on estimate rest.value) reported s result cost of small

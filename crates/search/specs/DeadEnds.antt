@@ -2,9 +2,13 @@
 use Rattle.std.specs.Prelude.{◌≡◌, ℕ, ◌<◌, ◌^◌, Bool, false, IsTrue, List, Option, None, Some}
 use Rattle.model.specs.Runs.{System, run}
 
--- no list of actions leads to the goal from a state that is reported dead
+-- no list of actions leads from the state to the goal
+abbrev pub IsDeadEnd : {S A : Type 0} → System S A → S → Type 0
+IsDeadEnd {S} {A} t s = (end : S) (plan : List A) → run t s plan ≡ Some end → t.meets_goal end ≡ false
+
+-- each state that is reported dead is a dead end
 abbrev pub ReportsDeadEnds : {S A : Type 0} → System S A → (S → Bool) → Type 0
-ReportsDeadEnds {S} {A} t is_dead = (s end : S) (plan : List A) → IsTrue (is_dead s) → run t s plan ≡ Some end → t.meets_goal end ≡ false
+ReportsDeadEnds {S} {A} t is_dead = (s : S) → IsTrue (is_dead s) → IsDeadEnd t s
 
 -- No state that meets the goal is reported dead, and all successors of a state that is reported dead are reported too. So such a state is
 -- a dead end; not all dead ends need be reported.

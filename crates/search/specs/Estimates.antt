@@ -3,10 +3,14 @@ use Rattle.std.proofs.Common.{zero-le}
 use Rattle.std.specs.Prelude.{◌≡◌, ℕ, ◌+◌, ◌≤◌, ℤ, pos, negsuc, IsTrue, List, Some, refl}
 use Rattle.model.specs.Runs.{System, run, cost_of_all}
 
--- The estimate is admissible: no list of actions from a state to one that meets the goal costs less than the state's estimate.
--- (Russell & Norvig, Artificial Intelligence, section 3.5.2.)
+-- The number is a lower bound of the state's remaining cost: no list of actions that runs from it to a state that meets the goal costs
+-- less. This is a fact of the system and the state, and stays one.
+abbrev pub IsLowerBound : {S A : Type 0} → System S A → S → ℕ → Type 0
+IsLowerBound {S} {A} t s least = (end : S) (plan : List A) → run t s plan ≡ Some end → IsTrue (t.meets_goal end) → least ≤ cost_of_all t plan
+
+-- The estimate is admissible: that of each state is a lower bound. (Russell & Norvig, Artificial Intelligence, section 3.5.2.)
 abbrev pub IsAdmissible : {S A : Type 0} → System S A → (S → ℕ) → Type 0
-IsAdmissible {S} {A} t value = (s end : S) (plan : List A) → run t s plan ≡ Some end → IsTrue (t.meets_goal end) → value s ≤ cost_of_all t plan
+IsAdmissible {S} {A} t value = (s : S) → IsLowerBound t s (value s)
 
 -- The estimate is consistent, and so admissible: it is 0 in states that meet the goal, and across an action falls by at most the action's
 -- cost. (Russell & Norvig, Artificial Intelligence, section 3.5.2; Hart, Nilsson & Raphael, A Formal

@@ -10,7 +10,7 @@ use Rattle.search.specs.declared.listing.Place.{Place}
 use Rattle.search.specs.declared.listing.Place.TheVariants.{New, Listed, Alike}
 use Rattle.search.specs.Listing.{IsAlikeAt}
 use Rattle.search.specs.declared.bases.Rest.{Rest}
-use Rattle.search.specs.OnDemand.{OnDemand, HoldsBy, IsBased, rest_at}
+use Rattle.search.specs.OnDemand.{HoldsBy, IsNoted, noted_at}
 use Rattle.search.specs.OpenList.{waiting_in, AreNoted, IsOpenList, JoinsBy}
 use Rattle.search.specs.Outcome.{AreMoreReachable}
 use Rattle.search.specs.Nodes.{Waiting, sum_of, estimate_of, place_of, entry, entries_at, AreSingle, IsCurrent, IsWaiting, total_of, IsEntryOf, has_been_expanded, status_again, Found, found_of, work_left, AreNodes, IsFoundWithin, AreClosed, AreClosedBut, IsTurn}
@@ -45,8 +45,8 @@ abbrev pub nodes_in : {S Store : Type 0} → (Store → List S) → Progress Sto
 nodes_in states_of p = found_of (states_of p.store) p.nodes.items
 
 -- this holds by the values of the search, and by its dead states
-abbrev pub HoldsIn : {S Store : Type 0} → System S ℕ → (S → ℕ) → (S → Bool) → OnDemand S → (Store → List S) → Progress Store → ((S → ℕ) → (S → Bool) → Type 0) → Type 0
-HoldsIn t estimate reported shown states_of p P = HoldsBy t estimate reported shown (nodes_in states_of p) p.bases P
+abbrev pub HoldsIn : {S Store : Type 0} → System S ℕ → (S → ℕ) → (S → Bool) → Bool → (Store → List S) → Progress Store → ((S → ℕ) → (S → Bool) → Type 0) → Type 0
+HoldsIn t estimate reported answers states_of p P = HoldsBy t estimate reported answers (nodes_in states_of p) p.bases P
 
 module _ {S Store : Type 0} (t : System S ℕ) (class_of : S → S) (value : S → ℕ) (is_dead : S → Bool) (states_of : Store → List S) (p : Progress Store) where
   -- between two expansions
@@ -137,7 +137,7 @@ IsFreeFor class_of is_current states count s (New place) = ⊤
 IsFreeFor class_of is_current states count s (Listed place) = ⊤
 IsFreeFor class_of is_current states count s (Alike place) = (count ≡ length states) × (¬ Contains states s) × IsAlikeAt class_of states s place × is_current place
 
-module _ {S Store : Type 0} (states_of : Store → List S) (old new : Progress Store) (s : S) (node : Node) (estimate : Option ℕ) (rest : Option Rest) (max_states : ℕ) where
+module _ {S Store : Type 0} (states_of : Store → List S) (old new : Progress Store) (s : S) (node : Node) (estimate : Option ℕ) (rest : Rest) (max_states : ℕ) where
   -- the state and its node are appended, beside the state at this place, which has been expanded
   pub record Appends (place : ℕ) : Type 0 where
     pub other : Node
@@ -147,7 +147,7 @@ module _ {S Store : Type 0} (states_of : Store → List S) (old new : Progress S
     pub states : states_of new.store ≡ states_of old.store ++ s ∷ []
     pub nodes : new.nodes.items ≡ old.nodes.items ++ node ∷ []
     pub open_list : JoinsBy old.open_list new.open_list node.cost (length old.nodes.items) estimate
-    pub bases : IsBased old.bases new.bases (length old.nodes.items) rest
+    pub bases : IsNoted old.bases new.bases (length old.nodes.items) rest.value
 
   -- the state and its node replace those at this place, which was never expanded
   pub record Replaces (place : ℕ) : Type 0 where
@@ -157,7 +157,7 @@ module _ {S Store : Type 0} (states_of : Store → List S) (old new : Progress S
     pub states : states_of new.store ≡ slice_set (states_of old.store) place s
     pub nodes : new.nodes.items ≡ slice_set old.nodes.items place node
     pub open_list : JoinsBy old.open_list new.open_list node.cost place estimate
-    pub bases : IsBased old.bases new.bases place rest
+    pub bases : IsNoted old.bases new.bases place rest.value
 
   -- the state at this place has the node now, and waits again if it was expanded
   pub record Improves (place : ℕ) : Type 0 where
@@ -173,7 +173,7 @@ module _ {S Store : Type 0} (states_of : Store → List S) (old new : Progress S
     pub states : states_of new.store ≡ states_of old.store
     pub nodes : new.nodes.items ≡ old.nodes.items ++ node ∷ []
     pub open_list : JoinsBy old.open_list new.open_list node.cost place estimate
-    pub bases : IsBased old.bases new.bases place rest
+    pub bases : IsNoted old.bases new.bases place rest.value
 
   -- the state is listed with the node
   abbrev pub TakesPlace : Place → Type 0
@@ -196,7 +196,7 @@ pub record Reaches {S Store : Type 0} (t : System S ℕ) (class_of : S → S) (v
   pub within : length (states_of new.store) ≤ max_states
   pub continues : Continues class_of (nodes_in states_of old) (nodes_in states_of new) i
   pub listed : IsListed t class_of (nodes_in states_of new) i a s
-  pub rest : rest_at new.bases i ≡ rest_at old.bases i
+  pub noted : noted_at new.bases i ≡ noted_at old.bases i
 
 -- The limit allows no more states, and nothing has changed.
 pub record IsFull {S Store : Type 0} (t : System S ℕ) (value : S → ℕ) (is_dead : S → Bool) (states_of : Store → List S) (old new : Progress Store) (max_states : ℕ) : Type 0 where

@@ -11,7 +11,7 @@ use Rattle.search.specs.declared.under_way.Search.{Search}
 use Rattle.search.specs.declared.under_way.Stop.{Stop}
 use Rattle.search.specs.declared.under_way.Stop.TheVariants as stop
 use Rattle.search.specs.Nodes.{AreClosed, found_of}
-use Rattle.search.specs.OnDemand.{OnDemand, HoldsBy}
+use Rattle.search.specs.OnDemand.{HoldsBy}
 use Rattle.search.specs.Outcome.{AreEstimates, HasEstimates, IsAtLimit, IsTrueOutcome}
 use Rattle.search.specs.Progress.{AreWide, HoldsIn, IsSearch, nodes_in}
 
@@ -56,27 +56,27 @@ found_in (Found steps cost found) = found
 found_in (Exhausted found) = found
 found_in (States least found) = found
 
-module _ {S Store R : Type 0} (t : System S ℕ) (class_of : S → S) (estimate : S → ℕ) (reported : S → Bool) (shown : OnDemand S) (fits : R → Type 0) (states_of : Store → List S) (classes_of : Store → S → S)
+module _ {S Store R : Type 0} (t : System S ℕ) (class_of : S → S) (estimate : S → ℕ) (reported : S → Bool) (answers : Bool) (fits : R → Type 0) (states_of : Store → List S) (classes_of : Store → S → S)
     (width_of : Store → ℕ) (width : ℕ) where
-  -- the search is under way by the values of its states, which stand on the guide's estimate and test for dead ends, and on bases
+  -- the search is under way by the values of its states: the guide's, or greater ones that were kept
   abbrev pub IsUnderWayBy : ℕ → Search Store R → Type 0
   IsUnderWayBy max_states search =
-      HoldsIn t estimate reported shown states_of search.progress
+      HoldsIn t estimate reported answers states_of search.progress
       (λ value is_dead. IsUnderWay t class_of value is_dead fits states_of classes_of width_of width max_states search)
 
   -- it ended with an outcome that is true by these values, or paused
   abbrev pub IsTrueHaltBy : ℕ → ℕ → Halt Store R → Type 0
   IsTrueHaltBy pause max_states (Ended outcome) =
-      HoldsBy t estimate reported shown (found_of (states_of (found_in outcome).store) (found_in outcome).nodes.items) (found_in outcome).bases
+      HoldsBy t estimate reported answers (found_of (states_of (found_in outcome).store) (found_in outcome).nodes.items) (found_in outcome).bases
       (λ value is_dead. IsTrueOutcome t class_of value is_dead states_of max_states outcome × HasEstimates value is_dead states_of outcome)
   IsTrueHaltBy pause max_states (Paused search) = IsUnderWayBy max_states search × (pause ≤ length (states_of (store_in search)))
 
-module _ {S Store : Type 0} (t : System S ℕ) (class_of : S → S) (estimate : S → ℕ) (reported : S → Bool) (shown : OnDemand S) (states_of : Store → List S) where
+module _ {S Store : Type 0} (t : System S ℕ) (class_of : S → S) (estimate : S → ℕ) (reported : S → Bool) (answers : Bool) (states_of : Store → List S) where
   -- it was stopped, and shows what `IsTrueStop` says by these values
   abbrev pub IsTrueStopBy : ℕ → Stop Store → Type 0
   IsTrueStopBy max_states (stop.Ended outcome) =
-      HoldsBy t estimate reported shown (found_of (states_of (found_in outcome).store) (found_in outcome).nodes.items) (found_in outcome).bases
+      HoldsBy t estimate reported answers (found_of (states_of (found_in outcome).store) (found_in outcome).nodes.items) (found_in outcome).bases
       (λ value is_dead. IsTrueStop t class_of value is_dead states_of max_states (stop.Ended outcome))
   IsTrueStopBy max_states (stop.Waiting least found) =
-      HoldsBy t estimate reported shown (found_of (states_of found.store) found.nodes.items) found.bases
+      HoldsBy t estimate reported answers (found_of (states_of found.store) found.nodes.items) found.bases
       (λ value is_dead. IsTrueStop t class_of value is_dead states_of max_states (stop.Waiting least found))

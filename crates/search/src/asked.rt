@@ -1,10 +1,10 @@
 //! The turn of a state: its value is asked for, and it is expanded unless it waits again or is dead.
-ghost use Rattle.std.specs.Prelude.{◌≡◌, ◌≤◌, ◌+◌, ◌-◌, ◌^◌, ◌<◌, ℕ, false, true, Some, MatchBool, IfOk, OnOk, length, slice_get, slice_set};
+ghost use Rattle.std.specs.Prelude.{◌≡◌, ◌≤◌, ◌+◌, ◌-◌, ◌^◌, ◌<◌, false, true, Some, MatchBool, IfOk, OnOk, length, slice_get, slice_set};
 ghost use Rattle.packed_state.specs.Packed.{bits_of};
 ghost use Rattle.search.specs.Nodes.{AreClosed};
-ghost use Rattle.search.specs.OnDemand.{basis_at, Extends, IsBased};
+ghost use Rattle.search.specs.OnDemand.{IsNoted};
 ghost use Rattle.search.specs.OpenList.{JoinsBy};
-ghost use Rattle.search.specs.Outcome.{AreClassesOf, is_expanded};
+ghost use Rattle.search.specs.Outcome.{AreClassesOf};
 ghost use Rattle.search.specs.Progress.{AreWide, Defers, HoldsIn, IsAtTurn, IsStopped, TurnsOver, nodes_in};
 
 use crate::bases::Rest;
@@ -35,7 +35,7 @@ impl<L: StateListing> Progress<L> {
         requires values_for { V.system_of values.old ≡ T.means problem.now.system.now }
         requires guide_width { G.width_of problem.now.guide.now ≡ T.width_of problem.now.system.now }
         requires values_width { V.width_of values.old ≡ T.width_of problem.now.system.now }
-        requires turn { HoldsIn (T.means problem.now.system.now) (G.estimate_of problem.now.guide.now) (G.is_dead problem.now.guide.now) (V.shows values.old) L.states self.old
+        requires turn { HoldsIn (T.means problem.now.system.now) (G.estimate_of problem.now.guide.now) (G.is_dead problem.now.guide.now) V.answers L.states self.old
             (λ value is_dead. IsAtTurn (T.means problem.now.system.now) (L.class_of self.old.store) value is_dead L.states self.old turn) }
         requires classes { AreClassesOf (T.means problem.now.system.now) (L.class_of self.old.store) }
         requires scratch { G.fits problem.now.guide.now buffers.old.scratch }
@@ -52,11 +52,10 @@ impl<L: StateListing> Progress<L> {
         ensures scratch { IfOk result (λ _. G.fits problem.now.guide.now buffers.new.scratch) }
         ensures values_for { V.system_of values.new ≡ V.system_of values.old }
         ensures values_width { V.width_of values.new ≡ V.width_of values.old }
-        ensures extends { IfOk result (λ _. Extends (V.shows values.old) (V.shows values.new)) }
         ensures over { IfOk result (λ is_over. MatchBool is_over
-            (HoldsIn (T.means problem.now.system.now) (G.estimate_of problem.now.guide.now) (G.is_dead problem.now.guide.now) (V.shows values.new) L.states self.new
+            (HoldsIn (T.means problem.now.system.now) (G.estimate_of problem.now.guide.now) (G.is_dead problem.now.guide.now) V.answers L.states self.new
             (λ value is_dead. TurnsOver (T.means problem.now.system.now) (L.class_of self.old.store) value is_dead L.states self.old self.new buffers.old buffers.new problem.now.max_states))
-            (HoldsIn (T.means problem.now.system.now) (G.estimate_of problem.now.guide.now) (G.is_dead problem.now.guide.now) (V.shows values.new) L.states self.new
+            (HoldsIn (T.means problem.now.system.now) (G.estimate_of problem.now.guide.now) (G.is_dead problem.now.guide.now) V.answers L.states self.new
             (λ value is_dead. IsStopped (T.means problem.now.system.now) (L.class_of self.old.store) value is_dead L.states self.new turn problem.now.max_states))) }
     {
         self.make_room(problem.alloc, values)?;
@@ -66,14 +65,10 @@ impl<L: StateListing> Progress<L> {
         self.expand(problem, values, buffers, turn)
     }
 
-    /// Forgets bases on which no state rests that waits or is dead, if they take too much memory.
+    /// Has bases forgotten that no state needs that waits or is dead, if they take too much memory.
     fn make_room<V: ValuesOnDemand>(&self, alloc: Global, values: &mut V) -> Result<(), NoMemory>
-        requires few { length self.now.nodes.items ≤ MAX_STATES }
         ensures width { V.width_of values.new ≡ V.width_of values.old }
         ensures system { V.system_of values.new ≡ V.system_of values.old }
-        ensures extends { Extends (V.shows values.old) (V.shows values.new) }
-        ensures kept { (place : ℕ) (node : _) (basis : _) → slice_get self.now.nodes.items place ≡ Some node → is_expanded node ≡ false
-            → basis_at self.now.bases place ≡ Some basis → (V.shows values.old).keeps basis.0 ≡ true → (V.shows values.new).keeps basis.0 ≡ true }
     {
         if values.is_full() {
             let used = self.bases.used(alloc, &self.nodes)?;
@@ -93,7 +88,7 @@ impl<L: StateListing> Progress<L> {
     ) -> Result<bool, NoMemory>
         requires values_for { V.system_of values.old ≡ G.system_of guide.now }
         requires values_width { length (bits_of buffers.old.state) ≡ V.width_of values.old }
-        requires turn { HoldsIn (G.system_of guide.now) (G.estimate_of guide.now) (G.is_dead guide.now) (V.shows values.old) L.states self.old
+        requires turn { HoldsIn (G.system_of guide.now) (G.estimate_of guide.now) (G.is_dead guide.now) V.answers L.states self.old
             (λ value is_dead. IsAtTurn (G.system_of guide.now) (L.class_of self.old.store) value is_dead L.states self.old turn) }
         requires open { AreClosed (G.system_of guide.now) (L.class_of self.old.store) (nodes_in L.states self.old) }
         requires state { slice_get (L.states self.old.store) turn.id.0 ≡ Some (bits_of buffers.old.state) }
@@ -104,10 +99,9 @@ impl<L: StateListing> Progress<L> {
         ensures scratch { buffers.new.scratch ≡ buffers.old.scratch }
         ensures values_for { V.system_of values.new ≡ V.system_of values.old }
         ensures values_width { V.width_of values.new ≡ V.width_of values.old }
-        ensures extends { IfOk result (λ _. Extends (V.shows values.old) (V.shows values.new)) }
         ensures asks { IfOk result (λ is_deferred. MatchBool is_deferred (buffers.new.asks < buffers.old.asks) (buffers.new.asks ≡ buffers.old.asks)) }
         ensures deferred { IfOk result (λ is_deferred. MatchBool is_deferred
-            (HoldsIn (G.system_of guide.now) (G.estimate_of guide.now) (G.is_dead guide.now) (V.shows values.new) L.states self.new
+            (HoldsIn (G.system_of guide.now) (G.estimate_of guide.now) (G.is_dead guide.now) V.answers L.states self.new
             (λ value is_dead. Defers (G.system_of guide.now) (L.class_of self.old.store) value is_dead L.states self.old self.new))
             (self.new ≡ self.old)) }
     {
@@ -134,31 +128,38 @@ impl<L: StateListing> Progress<L> {
         }
     }
 
-    /// The state whose turn it is has this value, by this basis, and waits again.
+    /// The state whose turn it is has this value, from this basis, and waits again.
     fn raise(&mut self, turn: Turn, basis: Basis, value: u64) -> Result<(), NoMemory>
         requires sum { turn.estimate ≤ turn.sum }
         requires fits { turn.sum - turn.estimate + value < 2 ^ 64 }
         requires place { turn.id.0 < MAX_STATES }
         ensures store { self.new.store ≡ self.old.store }
         ensures nodes { self.new.nodes.items ≡ self.old.nodes.items }
-        ensures bases { OnOk result (IsBased self.old.bases self.new.bases turn.id.0 (Some (record { basis = basis; value = value }))) }
+        ensures bases { OnOk result (IsNoted self.old.bases self.new.bases turn.id.0 value) }
         ensures open_list { OnOk result (JoinsBy self.old.open_list self.new.open_list (turn.sum - turn.estimate) turn.id.0 (Some value)) }
     {
         self.enqueue(turn.id, turn.sum - turn.estimate, Some(value))?;
-        self.bases.set(turn.id, Some(Rest { basis, value }))?;
-        Ok(())
+        let rest = Rest {
+            basis: Some(basis),
+            value,
+        };
+        self.bases.set(turn.id, rest)
     }
 
-    /// The state at this place is dead, by this basis.
+    /// The state at this place is dead, which comes from this basis.
     fn bury(&mut self, id: StateId, basis: Basis) -> Result<(), NoMemory>
         requires { id.0 < length self.old.nodes.items }
         ensures store { self.new.store ≡ self.old.store }
         ensures nodes { (node : _) → slice_get self.old.nodes.items id.0 ≡ Some node
             → self.new.nodes.items ≡ slice_set self.old.nodes.items id.0 (record node { status = NodeStatus.Dead }) }
-        ensures bases { OnOk result (IsBased self.old.bases self.new.bases id.0 (Some (record { basis = basis; value = 0 }))) }
+        ensures bases { OnOk result (IsNoted self.old.bases self.new.bases id.0 0) }
         ensures open_list { self.new.open_list ≡ self.old.open_list }
     {
         self.mark(id, NodeStatus::Dead);
-        self.bases.set(id, Some(Rest { basis, value: 0 }))
+        let rest = Rest {
+            basis: Some(basis),
+            value: 0,
+        };
+        self.bases.set(id, rest)
     }
 }

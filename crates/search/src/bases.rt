@@ -1,7 +1,6 @@
-//! What the values of found states rest on, beside the guide.
-ghost use Rattle.std.specs.Prelude.{◌≡◌, ◌<◌, ◌≤◌, ℕ, None, Some, true, false, IfOk, OnOk, length, slice_get, slice_index_or};
-ghost use Rattle.search.specs.OnDemand.{basis_at, rest_at, IsBased};
-ghost use Rattle.search.specs.Outcome.{is_expanded};
+//! The values that are kept for found states beside the guide's, and their bases.
+ghost use Rattle.std.specs.Prelude.{◌≡◌, ◌<◌, ℕ, OnOk, length};
+ghost use Rattle.search.specs.OnDemand.{IsNoted, noted_at};
 
 use crate::nodes::{Node, StateId};
 use crate::on_demand::Basis;
@@ -14,13 +13,26 @@ const NONE: u32 = 4_294_967_295;
 /// What the value of a state rests on beside the guide.
 #[derive(Clone, Copy)]
 pub(crate) struct Rest {
-    pub(crate) basis: Basis,
-    /// The state's value by the basis. So it is known even where the basis was forgotten.
+    /// Where the value comes from, if it is not the guide's alone.
+    pub(crate) basis: Option<Basis>,
+    /// A lower bound of the state's remaining cost, 0 without a basis. It stays one where the basis is forgotten.
     pub(crate) value: u64,
 }
 
-/// What the value of each found state rests on, by its place, in 12 bytes. Nothing is stored past the last place that has a basis: so no
-/// bytes are taken where no value is found on demand.
+impl Rest {
+    /// Nothing beside the guide.
+    pub(crate) fn none() -> Rest
+        ensures { result.value ≡ 0 }
+    {
+        Rest {
+            basis: None,
+            value: 0,
+        }
+    }
+}
+
+/// The value that is kept for each found state beside the guide's, and its basis, by the state's place, in 12 bytes. Nothing is stored
+/// past the last place that has a basis: so no bytes are taken where no value is found on demand.
 pub struct Bases {
     words: Vec<u32>,
     values: Vec<u64>,
@@ -38,7 +50,7 @@ impl Drop for Bases {
 impl Bases {
     /// No state has a basis.
     pub(crate) fn new(alloc: Global) -> Bases
-        ensures { (place : ℕ) → rest_at result place ≡ None }
+        ensures { (place : ℕ) → noted_at result place ≡ 0 }
     {
         Bases {
             words: Vec::new(alloc),
@@ -46,39 +58,29 @@ impl Bases {
         }
     }
 
-    /// The basis of the state at this place, or `None` if its value is that of the guide.
-    pub fn at(&self, place: u32) -> Option<Basis>
-        ensures { result ≡ basis_at self.now place }
-    {
-        match self.rest_at(place) {
-            Some(rest) => Some(rest.basis),
+    /// The basis of the value that is kept for the state at this place, or `None` if its value is that of the guide.
+    pub fn at(&self, place: u32) -> Option<Basis> {
+        match self.words.get(place as usize) {
+            Some(word) => basis_in(*word),
             None => None,
         }
     }
 
-    /// What the value of the state at this place rests on, or `None` if it is that of the guide.
-    pub(crate) fn rest_at(&self, place: u32) -> Option<Rest>
-        ensures { result ≡ rest_at self.now place }
+    /// What the value of the state at this place rests on beside the guide.
+    pub(crate) fn rest_at(&self, place: u32) -> Rest
+        ensures { result.value ≡ noted_at self.now place }
     {
-        let place = place as usize;
-        if place >= self.words.len() {
-            return None;
+        Rest {
+            basis: self.at(place),
+            value: self.value_at(place),
         }
-        let word = self.words[place];
-        if word == NONE {
-            return None;
-        }
-        let value = self.value_at(place);
-        Some(Rest {
-            basis: Basis(word),
-            value,
-        })
     }
 
-    /// The value that is stored at this place, or 0.
-    fn value_at(&self, place: usize) -> u64
-        ensures { result ≡ slice_index_or self.now.values.items place 0 }
+    /// The value that is kept for the state at this place, 0 if none is.
+    fn value_at(&self, place: u32) -> u64
+        ensures { result ≡ noted_at self.now place }
     {
+        let place = place as usize;
         if place >= self.values.len() {
             return 0;
         }
@@ -89,32 +91,27 @@ impl Bases {
     ///
     /// # Errors
     /// Memory is refused.
-    pub(crate) fn set(&mut self, id: StateId, rest: Option<Rest>) -> Result<(), NoMemory>
-        ensures { OnOk result (IsBased self.old self.new id.0 rest) }
+    pub(crate) fn set(&mut self, id: StateId, rest: Rest) -> Result<(), NoMemory>
+        ensures { OnOk result (IsNoted self.old self.new id.0 rest.value) }
     {
         let place = id.0 as usize;
-        match rest {
-            Some(rest) => {
-                self.extend_to(id)?;
-                self.words[place] = rest.basis.0;
-                self.values[place] = rest.value;
-                Ok(())
-            }
-            None => {
-                if place >= self.words.len() {
-                    return Ok(());
-                }
-                self.words[place] = NONE;
-                Ok(())
-            }
+        if rest.value == 0 && rest.basis.is_none() && place >= self.values.len() {
+            return Ok(());
         }
+        self.extend_to(id)?;
+        self.words[place] = match rest.basis {
+            Some(basis) => basis.0,
+            None => NONE,
+        };
+        self.values[place] = rest.value;
+        Ok(())
     }
 
     /// Makes room for the state at this place.
     fn extend_to(&mut self, id: StateId) -> Result<(), NoMemory>
         ensures words { OnOk result (id.0 < length self.new.words.items) }
         ensures values { OnOk result (id.0 < length self.new.values.items) }
-        ensures bases { OnOk result ((place : ℕ) → rest_at self.new place ≡ rest_at self.old place) }
+        ensures noted { OnOk result ((place : ℕ) → noted_at self.new place ≡ noted_at self.old place) }
     {
         'words: while self.words.len() <= id.0 as usize {
             self.words.push(NONE)?;
@@ -125,31 +122,32 @@ impl Bases {
         Ok(())
     }
 
-    /// For each basis, by its number, whether one of these states rests on it that waits or is dead. No state rests on those past the
-    /// end.
+    /// For each basis, by its number, whether a state has its value from it that waits or is dead. No state has one from those past the
+    /// end. This is a hint for what may be forgotten: nothing is promised of it.
     ///
     /// # Errors
     /// Memory is refused.
-    pub(crate) fn used(&self, alloc: Global, nodes: &[Node]) -> Result<Vec<bool>, NoMemory>
-        requires few { length nodes.now ≤ 16777216 }
-        ensures { IfOk result (λ used. (place : ℕ) (node : _) (basis : _) → slice_get nodes.now place ≡ Some node → is_expanded node ≡ false
-            → basis_at self.now place ≡ Some basis → slice_get used.items basis.0 ≡ Some true) }
-    {
+    pub(crate) fn used(&self, alloc: Global, nodes: &[Node]) -> Result<Vec<bool>, NoMemory> {
         let mut used = Vec::new(alloc);
-        for place in 0..nodes.len() {
+        for place in 0..nodes.len().min(self.words.len()) {
             if !nodes[place].is_expanded() {
-                mark(&mut used, self.at(place as u32))?;
+                mark(&mut used, basis_in(self.words[place]))?;
             }
         }
         Ok(used)
     }
 }
 
+/// The basis that the word stands for, if there is one.
+fn basis_in(word: u32) -> Option<Basis> {
+    if word == NONE {
+        return None;
+    }
+    Some(Basis(word))
+}
+
 /// Marks the number of this basis, if there is one.
-fn mark(used: &mut Vec<bool>, basis: Option<Basis>) -> Result<(), NoMemory>
-    ensures marked { OnOk result ((b : _) → basis ≡ Some b → slice_get used.new.items b.0 ≡ Some true) }
-    ensures others { OnOk result ((k : ℕ) → slice_get used.old.items k ≡ Some true → slice_get used.new.items k ≡ Some true) }
-{
+fn mark(used: &mut Vec<bool>, basis: Option<Basis>) -> Result<(), NoMemory> {
     let Some(basis) = basis else {
         return Ok(());
     };

@@ -1,10 +1,10 @@
 //! The progress of a search: the found states, and which of them wait.
-ghost use Rattle.std.specs.Prelude.{◌≡◌, ◌≢◌, ℕ, ◌+◌, ◌<◌, ◌≤◌, ◌^◌, Bool, true, false, List, [], ◌∷◌, ◌++◌, length, slice_get, slice_set, Contains, All, MatchBool, MatchOption, IfOk, IfNone, IfSome, None, OnOk, OnSome, Some};
+ghost use Rattle.std.specs.Prelude.{◌≡◌, ◌≢◌, ℕ, ◌+◌, ◌<◌, ◌≤◌, ◌^◌, Bool, true, false, List, [], ◌∷◌, ◌++◌, length, slice_get, slice_set, Contains, All, MatchBool, IfOk, IfNone, IfSome, None, OnOk, OnSome, Some};
 ghost use Rattle.packed_state.specs.Packed.{bits_of};
 ghost use Rattle.search.specs.Outcome.{AreClassesOf};
 ghost use Rattle.search.specs.Nodes.{Waiting, IsEntry, IsCurrent, AreClosed, IsPath, IsReachedIn};
-ghost use Rattle.search.specs.OnDemand.{rest_at, IsBased};
-ghost use Rattle.search.specs.Standing.{rest_of, IsStandingAt};
+ghost use Rattle.search.specs.OnDemand.{noted_at, IsNoted};
+ghost use Rattle.search.specs.Standing.{rest_value, IsStandingAt};
 ghost use Rattle.search.specs.OpenList.{waiting_in, IsOpenList, JoinsBy};
 ghost use Rattle.search.specs.Progress.{AreNotedWith, HoldsIn, TakesNext, IsLeastWith, nodes_in, IsSearch, IsAtTurn, IsStopped, IsExpanding, IsPlaceAmong, IsReachedWithin, IsReachedCheaper, IsFreeFor, TakesPlace, IsLeftOut, Reaches, IsFull, Expands, AreWide};
 
@@ -28,7 +28,7 @@ use std::cmp::Reverse;
 pub(crate) struct Progress<L> {
     pub(crate) store: L,
     pub(crate) nodes: Vec<Node>,
-    /// What the states' values stand on beside the guide, by place.
+    /// The values that are kept for states beside the guide's, by place.
     pub(crate) bases: Bases,
     /// An entry for each waiting state, and stale ones: the state was expanded at this cost, or was reached at a lower cost since, or
     /// another took its place.
@@ -52,7 +52,7 @@ impl<L: StateListing> Progress<L> {
         ensures search { IfOk result (λ p. IsSearch (T.means system.now) (L.class_of store) (G.estimate_of guide.now) (G.is_dead guide.now) L.states p) }
         ensures open { IfOk result (λ p. AreClosed (T.means system.now) (L.class_of store) (nodes_in L.states p)) }
         ensures one { IfOk result (λ p. length (L.states p.store) ≡ 1) }
-        ensures bases { IfOk result (λ p. (place : ℕ) → rest_at p.bases place ≡ None) }
+        ensures bases { IfOk result (λ p. (place : ℕ) → noted_at p.bases place ≡ 0) }
         ensures width { IfOk result (λ p. L.width_of p.store ≡ T.width_of system.now) }
         ensures class { IfOk result (λ p. L.class_of p.store ≡ L.class_of store) }
     {
@@ -135,7 +135,7 @@ impl<L: StateListing> Progress<L> {
         requires place { id.0 < MAX_STATES }
         ensures store { self.new.store ≡ self.old.store }
         ensures nodes { OnOk result (self.new.nodes.items ≡ self.old.nodes.items ++ reached.entry.node ∷ []) }
-        ensures bases { OnOk result (IsBased self.old.bases self.new.bases id.0 reached.entry.rest) }
+        ensures bases { OnOk result (IsNoted self.old.bases self.new.bases id.0 reached.entry.rest.value) }
         ensures open_list { OnOk result
             (JoinsBy self.old.open_list self.new.open_list reached.entry.node.cost id.0 reached.entry.estimate) }
     {
@@ -151,7 +151,7 @@ impl<L: StateListing> Progress<L> {
         requires place { id.0 < MAX_STATES }
         ensures store { self.new.store ≡ self.old.store }
         ensures nodes { OnOk result (self.new.nodes.items ≡ slice_set self.old.nodes.items id.0 reached.entry.node) }
-        ensures bases { OnOk result (IsBased self.old.bases self.new.bases id.0 reached.entry.rest) }
+        ensures bases { OnOk result (IsNoted self.old.bases self.new.bases id.0 reached.entry.rest.value) }
         ensures open_list { OnOk result
             (JoinsBy self.old.open_list self.new.open_list reached.entry.node.cost id.0 reached.entry.estimate) }
     {
@@ -223,7 +223,7 @@ impl<L: StateListing> Progress<L> {
         requires values_for { V.system_of values.now ≡ T.means problem.now.system.now }
         requires guide_width { G.width_of problem.now.guide.now ≡ L.width_of self.old.store }
         requires values_width { V.width_of values.now ≡ L.width_of self.old.store }
-        requires expanding { HoldsIn (T.means problem.now.system.now) (G.estimate_of problem.now.guide.now) (G.is_dead problem.now.guide.now) (V.shows values.now) L.states self.old
+        requires expanding { HoldsIn (T.means problem.now.system.now) (G.estimate_of problem.now.guide.now) (G.is_dead problem.now.guide.now) V.answers L.states self.old
             (λ value is_dead. IsExpanding (T.means problem.now.system.now) (L.class_of self.old.store) value is_dead L.states self.old to.parent.0) }
         requires scratch { G.fits problem.now.guide.now scratch.old }
         requires leads { (s : List Bool) → slice_get (L.states self.old.store) to.parent.0 ≡ Some s → (T.means problem.now.system.now).step s to.action ≡ Some (bits_of to.state.now) }
@@ -234,9 +234,9 @@ impl<L: StateListing> Progress<L> {
         ensures class { L.class_of self.new.store ≡ L.class_of self.old.store }
         ensures scratch { IfOk result (λ _. G.fits problem.now.guide.now scratch.new) }
         ensures listed { IfOk result (λ is_listed. MatchBool is_listed
-            (HoldsIn (T.means problem.now.system.now) (G.estimate_of problem.now.guide.now) (G.is_dead problem.now.guide.now) (V.shows values.now) L.states self.new
+            (HoldsIn (T.means problem.now.system.now) (G.estimate_of problem.now.guide.now) (G.is_dead problem.now.guide.now) V.answers L.states self.new
             (λ value is_dead. Reaches (T.means problem.now.system.now) (L.class_of self.old.store) value is_dead L.states self.old self.new to.entry.parent.0 problem.now.max_states to.entry.action (bits_of to.entry.state.now)))
-            (HoldsIn (T.means problem.now.system.now) (G.estimate_of problem.now.guide.now) (G.is_dead problem.now.guide.now) (V.shows values.now) L.states self.old
+            (HoldsIn (T.means problem.now.system.now) (G.estimate_of problem.now.guide.now) (G.is_dead problem.now.guide.now) V.answers L.states self.old
             (λ value is_dead. IsExpanding (T.means problem.now.system.now) (L.class_of self.old.store) value is_dead L.states self.old to.entry.parent.0
             × IsFull (T.means problem.now.system.now) value is_dead L.states self.old self.new problem.now.max_states))) }
     {
@@ -281,9 +281,9 @@ impl<L: StateListing> Progress<L> {
     ) -> Standing
         requires place { IsPlaceAmong (length self.now.nodes.items) place }
         requires width { length (bits_of to.state.now) ≡ V.width_of values.now }
-        requires noted { (k : ℕ) (rest : _) → rest_at self.now.bases k ≡ Some rest → rest.value < 2 ^ 63 }
-        ensures standing { IsStandingAt (V.shows values.now) self.now.nodes.items self.now.bases to.entry.parent.0 (bits_of to.entry.state.now) place result }
-        ensures fits { IfSome (rest_of result) (λ rest. rest.value < 2 ^ 63) }
+        requires fits { (k : ℕ) → noted_at self.now.bases k < 2 ^ 63 }
+        ensures standing { IsStandingAt V.answers (V.system_of values.now) self.now.nodes.items self.now.bases (bits_of to.entry.state.now) place result }
+        ensures fits { rest_value result < 2 ^ 63 }
     {
         match place {
             Place::Listed(place) => match self.nodes[place as usize].is_marked_dead() {
@@ -355,7 +355,7 @@ impl<L: StateListing> Progress<L> {
         requires values_for { V.system_of values.now ≡ T.means problem.now.system.now }
         requires guide_width { G.width_of problem.now.guide.now ≡ T.width_of problem.now.system.now }
         requires values_width { V.width_of values.now ≡ T.width_of problem.now.system.now }
-        requires turn { HoldsIn (T.means problem.now.system.now) (G.estimate_of problem.now.guide.now) (G.is_dead problem.now.guide.now) (V.shows values.now) L.states self.old
+        requires turn { HoldsIn (T.means problem.now.system.now) (G.estimate_of problem.now.guide.now) (G.is_dead problem.now.guide.now) V.answers L.states self.old
             (λ value is_dead. IsAtTurn (T.means problem.now.system.now) (L.class_of self.old.store) value is_dead L.states self.old turn) }
         requires classes { AreClassesOf (T.means problem.now.system.now) (L.class_of self.old.store) }
         requires scratch { G.fits problem.now.guide.now buffers.old.scratch }
@@ -372,9 +372,9 @@ impl<L: StateListing> Progress<L> {
         ensures scratch { IfOk result (λ _. G.fits problem.now.guide.now buffers.new.scratch) }
         ensures asks { IfOk result (λ _. buffers.new.asks ≡ buffers.old.asks) }
         ensures listed { IfOk result (λ is_listed. MatchBool is_listed
-            (HoldsIn (T.means problem.now.system.now) (G.estimate_of problem.now.guide.now) (G.is_dead problem.now.guide.now) (V.shows values.now) L.states self.new
+            (HoldsIn (T.means problem.now.system.now) (G.estimate_of problem.now.guide.now) (G.is_dead problem.now.guide.now) V.answers L.states self.new
             (λ value is_dead. Expands (T.means problem.now.system.now) (L.class_of self.old.store) value is_dead L.states self.old self.new problem.now.max_states))
-            (HoldsIn (T.means problem.now.system.now) (G.estimate_of problem.now.guide.now) (G.is_dead problem.now.guide.now) (V.shows values.now) L.states self.new
+            (HoldsIn (T.means problem.now.system.now) (G.estimate_of problem.now.guide.now) (G.is_dead problem.now.guide.now) V.answers L.states self.new
             (λ value is_dead. IsStopped (T.means problem.now.system.now) (L.class_of self.old.store) value is_dead L.states self.new turn problem.now.max_states))) }
     {
         problem

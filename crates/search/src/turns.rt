@@ -1,9 +1,9 @@
 //! The state that is expanded next, its successors, and a state as it is reached.
-ghost use Rattle.std.specs.Prelude.{◌≡◌, ◌<◌, ◌^◌, IfSome, length};
+ghost use Rattle.std.specs.Prelude.{◌≡◌, ◌<◌, ◌^◌, length};
 ghost use Rattle.packed_state.specs.Packed.{bits_of};
 ghost use Rattle.search.specs.Nodes.{parent_of};
-ghost use Rattle.search.specs.OnDemand.{rest_by};
-ghost use Rattle.search.specs.Standing.{rest_of, IsEstimateBy};
+ghost use Rattle.search.specs.OnDemand.{IsRestOf};
+ghost use Rattle.search.specs.Standing.{rest_value, IsEstimateBy};
 
 use crate::bases::Rest;
 use crate::best::MAX_STATES;
@@ -33,8 +33,8 @@ pub(crate) struct Successor<'a> {
 pub(crate) enum Standing {
     /// It is listed, and marked dead.
     Dead,
-    /// On the guide, and on this if it has a basis.
-    Based(Option<Rest>),
+    /// On the guide, and on this.
+    Based(Rest),
 }
 
 /// A state as it is reached now, with its node, its estimate, and what that stands on beside the guide. Without an estimate it is dead.
@@ -43,16 +43,16 @@ pub(crate) struct Reached<'a> {
     pub(crate) state: &'a Packed,
     pub(crate) node: Node,
     pub(crate) estimate: Option<u64>,
-    pub(crate) rest: Option<Rest>,
+    pub(crate) rest: Rest,
 }
 
 impl Standing {
-    /// What it stands on beside the guide, if there is such a thing.
-    pub(crate) fn rest(self) -> Option<Rest>
-        ensures { result ≡ rest_of self }
+    /// What it stands on beside the guide.
+    pub(crate) fn rest(self) -> Rest
+        ensures { result.value ≡ rest_value self }
     {
         match self {
-            Standing::Dead => None,
+            Standing::Dead => Rest::none(),
             Standing::Based(rest) => rest,
         }
     }
@@ -66,7 +66,7 @@ impl Standing {
     ) -> Option<u64>
         requires width { length (bits_of state.now) ≡ G.width_of guide.now }
         requires scratch { G.fits guide.now scratch.old }
-        requires fits { IfSome (rest_of self) (λ rest. rest.value < 2 ^ 63) }
+        requires fits { rest_value self < 2 ^ 63 }
         ensures estimate { IsEstimateBy (G.estimate_of guide.now) (G.is_dead guide.now) (bits_of state.now) self result }
         ensures scratch { G.fits guide.now scratch.new }
     {
@@ -76,10 +76,7 @@ impl Standing {
         let Some(estimate) = guide.value(state, scratch) else {
             return None;
         };
-        match rest {
-            Some(rest) => Some(estimate.max(rest.value)),
-            None => Some(estimate),
-        }
+        Some(estimate.max(rest.value))
     }
 }
 
@@ -88,17 +85,16 @@ pub(crate) fn rest_by<V: ValuesOnDemand>(
     values: &V,
     basis: Option<Basis>,
     state: &Packed,
-) -> Option<Rest>
-    requires width { length (bits_of state.now) ≡ V.width_of values.now }
-    ensures rest { result ≡ rest_by (V.shows values.now) basis (bits_of state.now) }
-    ensures fits { IfSome result (λ rest. rest.value < 2 ^ 63) }
+) -> Rest
+    requires { length (bits_of state.now) ≡ V.width_of values.now }
+    ensures { IsRestOf V.answers (V.system_of values.now) (bits_of state.now) result.value }
 {
     match basis {
-        Some(basis) => Some(Rest {
+        Some(at) => Rest {
             basis,
-            value: values.value(basis, state),
-        }),
-        None => None,
+            value: values.value(at, state),
+        },
+        None => Rest::none(),
     }
 }
 

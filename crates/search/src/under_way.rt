@@ -57,7 +57,7 @@
 //! found in the order of successors, is only tested.
 ghost use Rattle.std.specs.Prelude.{◌≡◌, ◌≤◌, ℕ, [], IfOk, None, length};
 ghost use Rattle.model.specs.Limits.{max_states_listed};
-ghost use Rattle.search.specs.OnDemand.{rest_at, Extends};
+ghost use Rattle.search.specs.OnDemand.{noted_at};
 ghost use Rattle.search.specs.OpenList.{IsLeastSum};
 ghost use Rattle.search.specs.Outcome.{AreClassesOf, HasEstimates, IsTrueOutcome};
 ghost use Rattle.search.specs.Nodes.{AreClosed};
@@ -113,7 +113,7 @@ impl<L: StateListing, R> Search<L, R> {
         ensures store { result.progress.store ≡ self.progress.store }
         ensures nodes { result.progress.nodes ≡ self.progress.nodes }
         ensures open_list { result.progress.open_list ≡ self.progress.open_list }
-        ensures bases { (place : ℕ) → rest_at result.progress.bases place ≡ None }
+        ensures bases { (place : ℕ) → noted_at result.progress.bases place ≡ 0 }
         ensures buffers { result.buffers ≡ self.buffers }
     {
         let Search { progress, buffers } = self;
@@ -190,7 +190,7 @@ pub fn begin_asking<T: TransitionSystem, G: Guide, V: ValuesOnDemand, L: StateLi
     requires empty { L.states store ≡ [] }
     requires width { L.width_of store ≡ T.width_of problem.now.system.now }
     ensures { IfOk result (λ search. (max_states : ℕ) → 1 ≤ max_states
-        → IsUnderWayBy (T.means problem.now.system.now) (L.class_of store) (G.estimate_of problem.now.guide.now) (G.is_dead problem.now.guide.now) (V.shows _values.now) (G.fits problem.now.guide.now) L.states L.class_of L.width_of (T.width_of problem.now.system.now) max_states search) }
+        → IsUnderWayBy (T.means problem.now.system.now) (L.class_of store) (G.estimate_of problem.now.guide.now) (G.is_dead problem.now.guide.now) V.answers (G.fits problem.now.guide.now) L.states L.class_of L.width_of (T.width_of problem.now.system.now) max_states search) }
 {
     start(problem.alloc, problem.system, problem.guide, store)
 }
@@ -207,7 +207,7 @@ fn start<T: TransitionSystem, G: Guide, L: StateListing>(
     requires width { L.width_of store ≡ T.width_of system.now }
     ensures under_way { IfOk result (λ search. (max_states : ℕ) → 1 ≤ max_states
         → IsUnderWay (T.means system.now) (L.class_of store) (G.estimate_of guide.now) (G.is_dead guide.now) (G.fits guide.now) L.states L.class_of L.width_of (T.width_of system.now) max_states search) }
-    ensures bases { IfOk result (λ search. (place : ℕ) → rest_at search.progress.bases place ≡ None) }
+    ensures bases { IfOk result (λ search. (place : ℕ) → noted_at search.progress.bases place ≡ 0) }
 {
     let scratch = guide.scratch(alloc)?;
     let mut buffers = Buffers::new(alloc, system.width(), scratch)?;
@@ -260,13 +260,12 @@ pub fn go_on_asking<T: TransitionSystem, G: Guide, V: ValuesOnDemand, L: StateLi
     requires values_for { V.system_of values.old ≡ T.means problem.now.system.now }
     requires guide_width { G.width_of problem.now.guide.now ≡ T.width_of problem.now.system.now }
     requires values_width { V.width_of values.old ≡ T.width_of problem.now.system.now }
-    requires under_way { IsUnderWayBy (T.means problem.now.system.now) (L.class_of (store_in search)) (G.estimate_of problem.now.guide.now) (G.is_dead problem.now.guide.now) (V.shows values.old) (G.fits problem.now.guide.now) L.states L.class_of L.width_of (T.width_of problem.now.system.now) problem.now.max_states search }
+    requires under_way { IsUnderWayBy (T.means problem.now.system.now) (L.class_of (store_in search)) (G.estimate_of problem.now.guide.now) (G.is_dead problem.now.guide.now) V.answers (G.fits problem.now.guide.now) L.states L.class_of L.width_of (T.width_of problem.now.system.now) problem.now.max_states search }
     requires classes { AreClassesOf (T.means problem.now.system.now) (L.class_of (store_in search)) }
     requires limit { problem.now.max_states ≤ max_states_listed }
     ensures values_for { IfOk result (λ _. V.system_of values.new ≡ V.system_of values.old) }
     ensures values_width { IfOk result (λ _. V.width_of values.new ≡ V.width_of values.old) }
-    ensures extends { IfOk result (λ _. Extends (V.shows values.old) (V.shows values.new)) }
-    ensures halt { IfOk result (IsTrueHaltBy (T.means problem.now.system.now) (L.class_of (store_in search)) (G.estimate_of problem.now.guide.now) (G.is_dead problem.now.guide.now) (V.shows values.new) (G.fits problem.now.guide.now) L.states L.class_of L.width_of (T.width_of problem.now.system.now) pause problem.now.max_states) }
+    ensures halt { IfOk result (IsTrueHaltBy (T.means problem.now.system.now) (L.class_of (store_in search)) (G.estimate_of problem.now.guide.now) (G.is_dead problem.now.guide.now) V.answers (G.fits problem.now.guide.now) L.states L.class_of L.width_of (T.width_of problem.now.system.now) pause problem.now.max_states) }
 {
     let Search {
         mut progress,
@@ -350,12 +349,12 @@ pub fn stop_asking<G: Guide, V: ValuesOnDemand, L: StateListing>(
     _values: &V,
     search: Search<L, G::Scratch>,
 ) -> Result<Stop<L>, NoMemory>
-    requires search { HoldsIn (G.system_of _guide.now) (G.estimate_of _guide.now) (G.is_dead _guide.now) (V.shows _values.now) L.states search.progress
+    requires search { HoldsIn (G.system_of _guide.now) (G.estimate_of _guide.now) (G.is_dead _guide.now) V.answers L.states search.progress
         (λ value is_dead. IsSearch (G.system_of _guide.now) (L.class_of (store_in search)) value is_dead L.states search.progress) }
     requires successors { AreClosed (G.system_of _guide.now) (L.class_of (store_in search)) (nodes_in L.states search.progress) }
     requires classes { AreClassesOf (G.system_of _guide.now) (L.class_of (store_in search)) }
     ensures { IfOk result (λ stop. (max_states : ℕ) → length (L.states (store_in search)) ≤ max_states
-        → IsTrueStopBy (G.system_of _guide.now) (L.class_of (store_in search)) (G.estimate_of _guide.now) (G.is_dead _guide.now) (V.shows _values.now) L.states max_states stop) }
+        → IsTrueStopBy (G.system_of _guide.now) (L.class_of (store_in search)) (G.estimate_of _guide.now) (G.is_dead _guide.now) V.answers L.states max_states stop) }
 {
     let Search {
         mut progress,

@@ -11,5 +11,4 @@ mod orders;
 mod packed_states;
 #[cfg(test)]
 mod refused_inserts;
-#[cfg(test)]
 mod rooms;

@@ -19,7 +19,7 @@ use Rattle.search_spaces.specs.declared.ground_listing.GroundListing.{GroundList
 use Rattle.search_spaces.specs.declared.ground_listing.GroundListing.TheVariants as listing
 use Rattle.search_spaces.specs.declared.search_space.SearchSpace.{SearchSpace}
 use Rattle.search.specs.Nodes.{found_of as found_nodes}
-use Rattle.search.specs.OnDemand.{AreValued, OnDemand, rest_at}
+use Rattle.search.specs.OnDemand.{AreValued}
 use Rattle.search.specs.Outcome.{AreFound}
 use Rattle.search.specs.UnderWay.{IsTrueStop, IsTrueStopBy}
 use Rattle.search.specs.declared.bases.Bases.{Bases}
@@ -28,7 +28,7 @@ use Rattle.search.specs.declared.nodes.Node.{Node}
 use Rattle.search.specs.declared.under_way.Stop.{Stop}
 use Rattle.search.specs.declared.under_way.Stop.TheVariants as stop
 use Rattle.search.proofs.Linked.{get-found_of}
-use Rattle.search.proofs.Valued.{value_on-least}
+use Rattle.search.proofs.Valued.{no_lower}
 use Rattle.line_evidence.specs.Roles.{CanBeMarked, HaveRolesOf, marks_in}
 use Rattle.line_evidence.specs.Shown.{AreSupported}
 use Rattle.line_evidence.specs.declared.marked.Marked.{Marked}
@@ -40,12 +40,12 @@ use Rattle.solver.proofs.FoundLines.{found_line, node_at}
 
 -- ---- the values by which it stands
 
-module _ (t : System (List Bool) ℕ) (estimate : List Bool → ℕ) (reported : List Bool → Bool) (shown : OnDemand (List Bool)) (states : List (List Bool)) (nodes : List Node) (bases : Bases) (value : List Bool → ℕ) (is_dead : List Bool → Bool)
-    (valued : AreValued t estimate reported shown (found_nodes states nodes) bases value is_dead) (one_each : length nodes ≡ length states) where
+module _ (t : System (List Bool) ℕ) (estimate : List Bool → ℕ) (reported : List Bool → Bool) (answers : Bool) (states : List (List Bool)) (nodes : List Node) (bases : Bases) (value : List Bool → ℕ) (is_dead : List Bool → Bool)
+    (valued : AreValued t estimate reported answers (found_nodes states nodes) bases value is_dead) (one_each : length nodes ≡ length states) where
   pub valued_no_lower : (k : ℕ) (bits : List Bool) → slice_get states k ≡ Some bits → is_dead bits ≡ false → estimate bits ≤ value bits
   valued_no_lower k bits at lives =
       let (node, there) = node_at nodes k (omega (arith, slice_get_within states k bits at, one_each)) in
-      omega (arith, value_on-least estimate (rest_at bases k) bits, valued.value_is k (record { state = bits; node = node }) (get-found_of states nodes k bits node at there) lives)
+      no_lower t estimate reported answers (found_nodes states nodes) bases value is_dead valued k (record { state = bits; node = node }) (get-found_of states nodes k bits node at there) lives
 
   pub valued_alive : (k : ℕ) (bits : List Bool) → slice_get states k ≡ Some bits → is_dead bits ≡ false → reported bits ≡ false
   valued_alive k bits at lives =
@@ -92,17 +92,17 @@ wide_found space numbered class_of value is_dead claim most store nodes found =
     let (k, bits, n, at_s, at_n, is) = found_line value is_dead (listed_states store) nodes line among in
     sym (listed_wide store k bits at_s) ∙ found_width (task_in (ground_in space)) (atoms_in (ground_in space)) numbered (listed_states store) nodes found k bits at_s
 
-pub wide_by : (space : SearchSpace) → IsSearchSpace space → (estimate : List Bool → ℕ) (reported : List Bool → Bool) (shown : OnDemand (List Bool)) (limits : Limits) (where_to : Stop GroundListing)
-    → IsTrueStopBy (system_of space) (class_in space) estimate reported shown listed_states limits.states where_to → listed_width (found_at where_to).store ≡ length (atoms_in (ground_in space))
-wide_by space is estimate reported shown limits (stop.Ended outcome) by =
+pub wide_by : (space : SearchSpace) → IsSearchSpace space → (estimate : List Bool → ℕ) (reported : List Bool → Bool) (answers : Bool) (limits : Limits) (where_to : Stop GroundListing)
+    → IsTrueStopBy (system_of space) (class_in space) estimate reported answers listed_states limits.states where_to → listed_width (found_at where_to).store ≡ length (atoms_in (ground_in space))
+wide_by space is estimate reported answers limits (stop.Ended outcome) by =
     let (claim, found) = found_of (system_of space) (class_in space) by.value by.is_dead limits.states outcome by.holds.0 in
     wide_found space is.atoms (class_in space) by.value by.is_dead claim limits.states (found_in outcome).store (found_in outcome).nodes.items found
-wide_by space is estimate reported shown limits (stop.Waiting least found) by =
+wide_by space is estimate reported answers limits (stop.Waiting least found) by =
     wide_found space is.atoms (class_in space) by.value by.is_dead (bound least) (length (listed_states found.store)) found.store found.nodes.items by.holds.1.found
 
 -- ---- what it comes to, with marks that say what it stands by, and that were tested
 
-module _ (space : SearchSpace) (s : SeveralValues) (limits : Limits) (shown : OnDemand (List Bool)) (marked : Marked) where
+module _ (space : SearchSpace) (s : SeveralValues) (limits : Limits) (answers : Bool) (marked : Marked) where
   abbrev estimate : List Bool → ℕ
   estimate = greatest_value (functions_of s)
 
@@ -117,7 +117,7 @@ module _ (space : SearchSpace) (s : SeveralValues) (limits : Limits) (shown : On
   IsSupportedAt where_to = AreSupported (task_in (ground_in space)) (atoms_in (ground_in space)) s (landmarks_of marked.landmarks) (listed_states (found_at where_to).store) (marks_in marked.marks.items)
 
   module _ (where_to : Stop GroundListing) (value : List Bool → ℕ) (is_dead : List Bool → Bool) (is : IsTrueStop (system_of space) (class_in space) value is_dead listed_states limits.states where_to)
-      (valued : AreValued (system_of space) estimate reported shown (found_nodes (listed_states (found_at where_to).store) (found_at where_to).nodes.items) (found_at where_to).bases value is_dead) where
+      (valued : AreValued (system_of space) estimate reported answers (found_nodes (listed_states (found_at where_to).store) (found_at where_to).nodes.items) (found_at where_to).bases value is_dead) where
     made : IsStoppedWithin limits where_to → HaveRoles where_to → IsSupportedAt where_to → IsAsked space s limits (record { stop = where_to; marked = marked })
     made within roles supported =
         let are = stopped_states (system_of space) (class_in space) value is_dead limits.states where_to is in
@@ -128,13 +128,13 @@ module _ (space : SearchSpace) (s : SeveralValues) (limits : Limits) (shown : On
           within = within;
           admissible = valued.admissible;
           reports = valued.dead_ends;
-          no_lower = valued_no_lower (system_of space) estimate reported shown (listed_states (found_at where_to).store) (found_at where_to).nodes.items (found_at where_to).bases value is_dead valued are.one_each;
-          alive = valued_alive (system_of space) estimate reported shown (listed_states (found_at where_to).store) (found_at where_to).nodes.items (found_at where_to).bases value is_dead valued are.one_each;
+          no_lower = valued_no_lower (system_of space) estimate reported answers (listed_states (found_at where_to).store) (found_at where_to).nodes.items (found_at where_to).bases value is_dead valued are.one_each;
+          alive = valued_alive (system_of space) estimate reported answers (listed_states (found_at where_to).store) (found_at where_to).nodes.items (found_at where_to).bases value is_dead valued are.one_each;
           roles = roles value is_dead are.can_be_marked;
           supported = supported;
         }
 
-  pub asked_of : (where_to : Stop GroundListing) → IsTrueStopBy (system_of space) (class_in space) estimate reported shown listed_states limits.states where_to → IsStoppedWithin limits where_to → HaveRoles where_to → IsSupportedAt where_to
+  pub asked_of : (where_to : Stop GroundListing) → IsTrueStopBy (system_of space) (class_in space) estimate reported answers listed_states limits.states where_to → IsStoppedWithin limits where_to → HaveRoles where_to → IsSupportedAt where_to
       → IsAsked space s limits (record { stop = where_to; marked = marked })
   asked_of (stop.Ended (PlanFound steps cost found)) by = made (stop.Ended (PlanFound steps cost found)) by.value by.is_dead by.holds by.valued
   asked_of (stop.Ended (Exhausted found)) by = made (stop.Ended (Exhausted found)) by.value by.is_dead by.holds by.valued
@@ -142,12 +142,12 @@ module _ (space : SearchSpace) (s : SeveralValues) (limits : Limits) (shown : On
   asked_of (stop.Waiting least found) by = made (stop.Waiting least found) by.value by.is_dead by.holds by.valued
 
 -- there is one node for each of its states, one estimate for each, and they are few
-pub states_by : (space : SearchSpace) (estimate : List Bool → ℕ) (reported : List Bool → Bool) (shown : OnDemand (List Bool)) (limits : Limits) (where_to : Stop GroundListing)
-    → IsTrueStopBy (system_of space) (class_in space) estimate reported shown listed_states limits.states where_to
+pub states_by : (space : SearchSpace) (estimate : List Bool → ℕ) (reported : List Bool → Bool) (answers : Bool) (limits : Limits) (where_to : Stop GroundListing)
+    → IsTrueStopBy (system_of space) (class_in space) estimate reported answers listed_states limits.states where_to
     → (length (found_at where_to).nodes.items ≡ length (listed_states (found_at where_to).store)) × (length (found_at where_to).estimates.items ≡ length (found_at where_to).nodes.items) × (length (found_at where_to).nodes.items ≤ limits.states)
-states_by space estimate reported shown limits (stop.Ended outcome) by =
+states_by space estimate reported answers limits (stop.Ended outcome) by =
     let are = stopped_states (system_of space) (class_in space) by.value by.is_dead limits.states (stop.Ended outcome) by.holds in
     (are.one_each, are.can_be_marked.estimated.0, omega (arith, are.one_each, are.few))
-states_by space estimate reported shown limits (stop.Waiting least found) by =
+states_by space estimate reported answers limits (stop.Waiting least found) by =
     let are = stopped_states (system_of space) (class_in space) by.value by.is_dead limits.states (stop.Waiting least found) by.holds in
     (are.one_each, are.can_be_marked.estimated.0, omega (arith, are.one_each, are.few))

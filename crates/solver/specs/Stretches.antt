@@ -7,7 +7,6 @@ use Rattle.search.specs.Nodes.{AreClosed}
 use Rattle.search.specs.Estimates.{IsAdmissible}
 use Rattle.search.specs.DeadEnds.{ReportsDeadEnds}
 use Rattle.search.specs.Progress.{IsSearch, nodes_in}
-use Rattle.search.specs.OnDemand.{OnDemand}
 use Rattle.search.specs.UnderWay as under_way
 use Rattle.search.specs.declared.under_way.Halt.{Halt}
 use Rattle.search.specs.declared.under_way.Search.{Search}
@@ -40,15 +39,15 @@ IsBetweenTurns space estimate is_dead s =
     IsSearch (system_of space) (class_in space) estimate is_dead listed_states s.progress
     × AreClosed (system_of space) (class_in space) (nodes_in listed_states s.progress)
 
-module _ {R : Type 0} (space : SearchSpace) (estimate : List Bool → ℕ) (reported : List Bool → Bool) (shown : OnDemand (List Bool)) (fits : R → Type 0) where
+module _ {R : Type 0} (space : SearchSpace) (estimate : List Bool → ℕ) (reported : List Bool → Bool) (answers : Bool) (fits : R → Type 0) where
   -- the same of a search that asks for values, between two turns
   abbrev pub IsUnderWayBy : ℕ → Search GroundListing R → Type 0
   IsUnderWayBy max_states s =
-      under_way.IsUnderWayBy (system_of space) (class_in space) estimate reported shown fits listed_states listed_class listed_width (length (atoms_in (ground_in space))) max_states s
+      under_way.IsUnderWayBy (system_of space) (class_in space) estimate reported answers fits listed_states listed_class listed_width (length (atoms_in (ground_in space))) max_states s
 
   -- and where it halts
   abbrev pub IsHaltBy : (pause max_states : ℕ) → Halt GroundListing R → Type 0
-  IsHaltBy = under_way.IsTrueHaltBy (system_of space) (class_in space) estimate reported shown fits listed_states listed_class listed_width (length (atoms_in (ground_in space)))
+  IsHaltBy = under_way.IsTrueHaltBy (system_of space) (class_in space) estimate reported answers fits listed_states listed_class listed_width (length (atoms_in (ground_in space)))
 
 -- The search goes by some admissible estimate and some test for dead ends, and reports no others.
 pub record IsSound {R : Type 0} (space : SearchSpace) (s : Search GroundListing R) : Type 0 where

@@ -78,7 +78,7 @@ fn search_to_stop<'l, 't, G: Guide, V: ValuesOnDemand, E: Sink + Clock>(
     requires width { G.width_of session.now.guide.now ≡ length (atoms_in (ground_in session.now.setting.space)) }
     requires values_system { V.system_of values.old ≡ system_of session.now.setting.space }
     requires values_width { V.width_of values.old ≡ length (atoms_in (ground_in session.now.setting.space)) }
-    ensures stop { IfOk result (λ o. IfSome o (IsTrueStopBy (system_of session.now.setting.space) (class_in session.now.setting.space) (G.estimate_of session.now.guide.now) (G.is_dead session.now.guide.now) (V.shows values.new) listed_states session.now.setting.limits.states)) }
+    ensures stop { IfOk result (λ o. IfSome o (IsTrueStopBy (system_of session.now.setting.space) (class_in session.now.setting.space) (G.estimate_of session.now.guide.now) (G.is_dead session.now.guide.now) V.answers listed_states session.now.setting.limits.states)) }
     ensures within { IfOk result (λ o. IfSome o (IsStoppedWithin session.now.setting.limits)) }
     ensures said { MayContinue (IsLineWithin (task_in (ground_in session.now.setting.space)) session.now.setting.limits) E.may_lack_memory (E.failures err.old) (E.taken err.old) (E.failures err.new) (E.taken err.new) }
 {
@@ -106,7 +106,7 @@ fn begin_asking_by<'l, 't, G: Guide, V: ValuesOnDemand>(
 ) -> Result<Search<GroundListing<'l, 't>, G::Scratch>, NoMemory>
     requires system { G.system_of session.now.guide.now ≡ system_of session.now.setting.space }
     requires width { G.width_of session.now.guide.now ≡ length (atoms_in (ground_in session.now.setting.space)) }
-    ensures { IfOk result (IsUnderWayBy session.now.setting.space (G.estimate_of session.now.guide.now) (G.is_dead session.now.guide.now) (V.shows values.now) (G.fits session.now.guide.now) session.now.setting.limits.states) }
+    ensures { IfOk result (IsUnderWayBy session.now.setting.space (G.estimate_of session.now.guide.now) (G.is_dead session.now.guide.now) V.answers (G.fits session.now.guide.now) session.now.setting.limits.states) }
 {
     let Setting {
         alloc,
@@ -136,10 +136,10 @@ fn stretch_asking<'l, 't, G: Guide, V: ValuesOnDemand>(
     requires width { G.width_of session.now.guide.now ≡ length (atoms_in (ground_in session.now.setting.space)) }
     requires values_system { V.system_of values.old ≡ system_of session.now.setting.space }
     requires values_width { V.width_of values.old ≡ length (atoms_in (ground_in session.now.setting.space)) }
-    requires under_way { IsUnderWayBy session.now.setting.space (G.estimate_of session.now.guide.now) (G.is_dead session.now.guide.now) (V.shows values.old) (G.fits session.now.guide.now) session.now.setting.limits.states search }
+    requires under_way { IsUnderWayBy session.now.setting.space (G.estimate_of session.now.guide.now) (G.is_dead session.now.guide.now) V.answers (G.fits session.now.guide.now) session.now.setting.limits.states search }
     ensures values_system { IfOk result (λ _. V.system_of values.new ≡ system_of session.now.setting.space) }
     ensures values_width { IfOk result (λ _. V.width_of values.new ≡ length (atoms_in (ground_in session.now.setting.space))) }
-    ensures halt { IfOk result (IsHaltBy session.now.setting.space (G.estimate_of session.now.guide.now) (G.is_dead session.now.guide.now) (V.shows values.new) (G.fits session.now.guide.now) pause session.now.setting.limits.states) }
+    ensures halt { IfOk result (IsHaltBy session.now.setting.space (G.estimate_of session.now.guide.now) (G.is_dead session.now.guide.now) V.answers (G.fits session.now.guide.now) pause session.now.setting.limits.states) }
 {
     let Setting {
         alloc,
@@ -164,8 +164,8 @@ fn stop_asking_by<'l, 't, G: Guide, V: ValuesOnDemand>(
 ) -> Result<Stop<GroundListing<'l, 't>>, NoMemory>
     requires space { IsSearchSpace session.now.setting.space }
     requires system { G.system_of session.now.guide.now ≡ system_of session.now.setting.space }
-    requires under_way { IsUnderWayBy session.now.setting.space (G.estimate_of session.now.guide.now) (G.is_dead session.now.guide.now) (V.shows values.now) (G.fits session.now.guide.now) session.now.setting.limits.states search }
-    ensures { IfOk result (IsTrueStopBy (system_of session.now.setting.space) (class_in session.now.setting.space) (G.estimate_of session.now.guide.now) (G.is_dead session.now.guide.now) (V.shows values.now) listed_states session.now.setting.limits.states) }
+    requires under_way { IsUnderWayBy session.now.setting.space (G.estimate_of session.now.guide.now) (G.is_dead session.now.guide.now) V.answers (G.fits session.now.guide.now) session.now.setting.limits.states search }
+    ensures { IfOk result (IsTrueStopBy (system_of session.now.setting.space) (class_in session.now.setting.space) (G.estimate_of session.now.guide.now) (G.is_dead session.now.guide.now) V.answers listed_states session.now.setting.limits.states) }
 {
     stop_asking(session.setting.alloc, session.guide, values, search)
 }

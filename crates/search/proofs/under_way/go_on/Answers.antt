@@ -1,9 +1,8 @@
-use Rattle.std.proofs.Common.{ℕ, List, Bool, refl, subst}
+use Rattle.std.proofs.Common.{ℕ, List, Bool, false, refl, subst}
 use Rattle.model.specs.Runs.{System}
 use Rattle.faults.proofs.Results.{if_ok}
 use Rattle.search.specs.DeadEnds.{ReportsDeadEnds}
 use Rattle.search.specs.Estimates.{IsAdmissible}
-use Rattle.search.specs.OnDemand.{nothing_shown}
 use Rattle.search.proofs.Valued.{valued_alone}
 use Rattle.search.proofs.Halts.{halts_by_guide}
 use Rattle.search.proofs.under_way.go_on.Goals as goal
@@ -48,5 +47,5 @@ pub returns : goal.returns
 returns g c =
     if_ok c.go_on_asking.result
     (halts_by_guide (g.T.TransitionSystem.means c.args.system.now) (g.L.StateListing.class_of c.args.search.progress.store) (g.G.Guide.estimate_of c.args.guide.now) (g.G.Guide.is_dead c.args.guide.now)
-    nothing_shown refl (g.G.Guide.fits c.args.guide.now) g.L.StateListing.states g.L.StateListing.class_of g.L.StateListing.width_of (g.T.TransitionSystem.width_of c.args.system.now) c.args.pause c.args.max_states)
+    false refl (g.G.Guide.fits c.args.guide.now) g.L.StateListing.states g.L.StateListing.class_of g.L.StateListing.width_of (g.T.TransitionSystem.width_of c.args.system.now) c.args.pause c.args.max_states)
     (rw c.without_bases-search.ensures.store at c.go_on_asking.ensures.halt)

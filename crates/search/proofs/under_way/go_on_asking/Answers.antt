@@ -11,7 +11,6 @@ use Rattle.search.proofs.OpenList.{All-among}
 use Rattle.search.proofs.Steps.{entries_of, at_turn, none_waits}
 use Rattle.search.proofs.Noted.{are_estimates, none_estimated}
 use Rattle.search.proofs.Stopped.{entries_stopped, turn_within, estimates_stopped, at_limit}
-use Rattle.search.proofs.Valued.{extends_same, extends_trans}
 use Rattle.search.proofs.under_way.go_on_asking.Given.{Over}
 use Rattle.search.proofs.under_way.go_on_asking.Goals.{In-Some}
 use Rattle.search.proofs.under_way.go_on_asking.Goals as goal
@@ -34,7 +33,6 @@ turns-init g c = record {
   };
   values_for = refl;
   values_width = refl;
-  extends = extends_same _;
 }
 
 pub next_waiting-requires-clause-heap : goal.next_waiting-requires-clause-heap
@@ -246,7 +244,6 @@ turns-preserved g c =
       };
       values_for = c.take_turn.ensures.values_for ∙ inv.values_for;
       values_width = c.take_turn.ensures.values_width ∙ inv.values_width;
-      extends = extends_trans inv.extends c.in_ok-take_turn.ensures.extends;
     }
 
 pub returns-then-not-branch-clause-halt : goal.returns-then-not-branch-clause-halt
@@ -275,9 +272,6 @@ returns-then-not-branch-clause-values_for g c = c.take_turn.ensures.values_for �
 
 pub returns-then-not-branch-clause-values_width : goal.returns-then-not-branch-clause-values_width
 returns-then-not-branch-clause-values_width g c = c.take_turn.ensures.values_width ∙ c.turns.invariant.values_width
-
-pub returns-then-not-branch-clause-extends : goal.returns-then-not-branch-clause-extends
-returns-then-not-branch-clause-extends g c = extends_trans c.turns.invariant.extends c.in_ok-take_turn.ensures.extends
 
 pub returns-in_default-clause-halt : goal.returns-in_default-clause-halt
 returns-in_default-clause-halt g c =

@@ -1,6 +1,5 @@
-use Rattle.std.proofs.Common.{refl}
+use Rattle.std.proofs.Common.{false, refl}
 use Rattle.faults.proofs.Results.{if_ok}
-use Rattle.search.specs.OnDemand.{nothing_shown}
 use Rattle.search.proofs.Halts.{stops_by_guide}
 use Rattle.search.proofs.Valued.{valued_alone}
 use Rattle.search.proofs.under_way.stop_at_pause.Goals as goal
@@ -34,5 +33,5 @@ returns g c =
     let class_of = g.L.StateListing.class_of c.args.search.progress.store in
     let value = g.G.Guide.estimate_of c.args.guide.now in
     let is_dead = g.G.Guide.is_dead c.args.guide.now in
-    if_ok c.stop_asking.result (λ stop by max_states within. stops_by_guide t class_of value is_dead nothing_shown refl g.L.StateListing.states max_states stop (by max_states within))
+    if_ok c.stop_asking.result (λ stop by max_states within. stops_by_guide t class_of value is_dead false refl g.L.StateListing.states max_states stop (by max_states within))
     (rw c.without_bases-search.ensures.store at c.stop_asking.ensures)

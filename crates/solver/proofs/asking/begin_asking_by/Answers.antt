@@ -34,13 +34,13 @@ returns g c =
     let estimate = g.G.Guide.estimate_of guide in
     let is_dead = g.G.Guide.is_dead guide in
     let fits = g.G.Guide.fits guide in
-    let shown = g.V.ValuesOnDemand.shows c.args.values.now in
+    let answers = g.V.ValuesOnDemand.answers in
     let space = c.args.session.now.setting.space in
     let limit = c.args.session.now.setting.limits.states in
     let some = leb-true 1 limit (and_parts (nat_le 1 limit) (nat_le limit 16777216) c.args.session.now.setting.limits.states_within).0 in
-    for_limit (IsUnderWayBy space estimate is_dead shown fits) c.begin_asking.result limit
+    for_limit (IsUnderWayBy space estimate is_dead answers fits) c.begin_asking.result limit
     (subst (λ (k : Ground). IfOk c.begin_asking.result (λ s. (n : ℕ) → 1 ≤ n
-    → under_way.IsUnderWayBy (means k) (class_in space) estimate is_dead shown fits listed_states listed_class listed_width (length (atoms_in k)) n s)) c.ground.ensures
+    → under_way.IsUnderWayBy (means k) (class_in space) estimate is_dead answers fits listed_states listed_class listed_width (length (atoms_in k)) n s)) c.ground.ensures
     (subst (λ (class_of : List Bool → List Bool). IfOk c.begin_asking.result (λ s. (n : ℕ) → 1 ≤ n
-    → under_way.IsUnderWayBy (means c.ground.result.now) class_of estimate is_dead shown fits listed_states listed_class listed_width (length (atoms_in c.ground.result.now)) n s))
+    → under_way.IsUnderWayBy (means c.ground.result.now) class_of estimate is_dead answers fits listed_states listed_class listed_width (length (atoms_in c.ground.result.now)) n s))
     c.in_ok-listing.ensures.class c.begin_asking.ensures)) some

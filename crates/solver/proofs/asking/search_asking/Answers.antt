@@ -1,4 +1,4 @@
-use Rattle.std.proofs.Common.{◌≡◌, ◌∙◌, ◌<◌, ◌≤◌, ℕ, Bool, List, [], Option, length, sym, ap, subst, arith}
+use Rattle.std.proofs.Common.{◌≡◌, ◌∙◌, ◌<◌, ◌≤◌, ℕ, Bool, true, List, [], Option, length, sym, ap, subst, arith}
 use Rattle.std.specs.Prelude.{IfSome}
 use Rattle.grounding.specs.declared.ground.Ground.{Ground}
 use Rattle.grounding.specs.Ground.{task_in, atoms_in}
@@ -20,7 +20,6 @@ use Rattle.search.specs.declared.nodes.FoundStates.{FoundStates}
 use Rattle.line_evidence.specs.Roles.{CanBeMarked, HaveRolesOf, marks_in}
 use Rattle.line_evidence.specs.Shown.{AreSupported}
 use Rattle.line_evidence.specs.declared.marked.Marked.{Marked}
-use Rattle.landmarks_on_demand.specs.Shown.{shown_by}
 use Rattle.search.specs.UnderWay.{IsTrueStopBy}
 use Rattle.search.specs.declared.under_way.Stop.{Stop}
 use Rattle.search_spaces.specs.SearchSpace.{class_in, ground_in, system_of}
@@ -71,11 +70,11 @@ search_to_stop-requires-clause-values_width g c =
 -- ---- where it was stopped
 
 stopped_by : (g : Over) (c : In-Some g) → IsTrueStopBy (system_of c.args.setting.space) (class_in c.args.setting.space) (greatest_value (functions_of (functions_in c.args.guide.now)))
-    (is_dead_by (dead_ends_of (functions_in c.args.guide.now))) (shown_by c.search_to_stop.new.values.values.items) listed_states c.args.setting.limits.states c.in-Some.stop
+    (is_dead_by (dead_ends_of (functions_in c.args.guide.now))) true listed_states c.args.setting.limits.states c.in-Some.stop
 stopped_by g c =
     let s = functions_in c.args.guide.now in
     subst (λ (o : Option (Stop GroundListing)). IfSome o (IsTrueStopBy (system_of c.args.setting.space) (class_in c.args.setting.space) (greatest_value (functions_of s)) (is_dead_by (dead_ends_of s))
-    (shown_by c.search_to_stop.new.values.values.items) listed_states c.args.setting.limits.states)) c.in-Some.is c.in_ok-stop.ensures.stop
+    true listed_states c.args.setting.limits.states)) c.in-Some.is c.in_ok-stop.ensures.stop
 
 -- ---- its lines
 
@@ -83,25 +82,25 @@ pub tested_marks-requires-clause-width : goal.tested_marks-requires-clause-width
 tested_marks-requires-clause-width g c =
     let s = functions_in c.args.guide.now in
     ap (λ (found : FoundStates GroundListing). listed_width found.store) c.found_at.ensures
-    ∙ wide_by c.args.setting.space c.requires.space (greatest_value (functions_of s)) (is_dead_by (dead_ends_of s)) (shown_by c.search_to_stop.new.values.values.items) c.args.setting.limits c.in-Some.stop (stopped_by g (goal.at.tested_marks-requires-clause-width g c).In-Some)
+    ∙ wide_by c.args.setting.space c.requires.space (greatest_value (functions_of s)) (is_dead_by (dead_ends_of s)) true c.args.setting.limits c.in-Some.stop (stopped_by g (goal.at.tested_marks-requires-clause-width g c).In-Some)
     ∙ ap (λ (k : Ground). length (atoms_in k)) (sym c.requires.ground)
 
 pub tested_marks-requires-clause-one_for_each : goal.tested_marks-requires-clause-one_for_each
 tested_marks-requires-clause-one_for_each g c =
     let s = functions_in c.args.guide.now in
     subst (λ (found : FoundStates GroundListing). length found.nodes.items ≡ length (listed_states found.store)) (sym c.found_at.ensures)
-    (states_by c.args.setting.space (greatest_value (functions_of s)) (is_dead_by (dead_ends_of s)) (shown_by c.search_to_stop.new.values.values.items) c.args.setting.limits c.in-Some.stop (stopped_by g (goal.at.tested_marks-requires-clause-one_for_each g c).In-Some)).0
+    (states_by c.args.setting.space (greatest_value (functions_of s)) (is_dead_by (dead_ends_of s)) true c.args.setting.limits c.in-Some.stop (stopped_by g (goal.at.tested_marks-requires-clause-one_for_each g c).In-Some)).0
 
 pub tested_marks-requires-clause-estimates : goal.tested_marks-requires-clause-estimates
 tested_marks-requires-clause-estimates g c =
     let s = functions_in c.args.guide.now in
     subst (λ (found : FoundStates GroundListing). length found.estimates.items ≡ length found.nodes.items) (sym c.found_at.ensures)
-    (states_by c.args.setting.space (greatest_value (functions_of s)) (is_dead_by (dead_ends_of s)) (shown_by c.search_to_stop.new.values.values.items) c.args.setting.limits c.in-Some.stop (stopped_by g (goal.at.tested_marks-requires-clause-estimates g c).In-Some)).1
+    (states_by c.args.setting.space (greatest_value (functions_of s)) (is_dead_by (dead_ends_of s)) true c.args.setting.limits c.in-Some.stop (stopped_by g (goal.at.tested_marks-requires-clause-estimates g c).In-Some)).1
 
 pub tested_marks-requires-clause-few : goal.tested_marks-requires-clause-few
 tested_marks-requires-clause-few g c =
     let s = functions_in c.args.guide.now in
-    let few = (states_by c.args.setting.space (greatest_value (functions_of s)) (is_dead_by (dead_ends_of s)) (shown_by c.search_to_stop.new.values.values.items) c.args.setting.limits c.in-Some.stop (stopped_by g (goal.at.tested_marks-requires-clause-few g c).In-Some)).2 in
+    let few = (states_by c.args.setting.space (greatest_value (functions_of s)) (is_dead_by (dead_ends_of s)) true c.args.setting.limits c.in-Some.stop (stopped_by g (goal.at.tested_marks-requires-clause-few g c).In-Some)).2 in
     let same : length c.found_at.result.now.nodes.items ≡ length (found_at c.in-Some.stop).nodes.items = ap (λ (found : FoundStates GroundListing). length found.nodes.items) c.found_at.ensures in
     omega (arith, few, same, most_of_limit c.args.setting.limits.states c.args.setting.limits.states_within)
 
@@ -116,7 +115,7 @@ returns-in-Some-2-clause-asked g c =
     → HaveRolesOf value is_dead (listed_states c.found_at.result.now.store) c.found_at.result.now.nodes.items m.marks.items)) c.in-Some-2.is c.in_ok-marked.ensures.roles in
     let supported = subst (λ (o : Option Marked). IfSome o (λ (m : Marked). AreSupported (task_in (guides.ground_in c.args.guide.now)) (atoms_in (guides.ground_in c.args.guide.now)) s
     (landmarks_of m.landmarks) (listed_states c.found_at.result.now.store) (marks_in m.marks.items))) c.in-Some-2.is c.in_ok-marked.ensures.supported in
-    asked_of space s c.args.setting.limits (shown_by c.search_to_stop.new.values.values.items) marked stop (stopped_by g (goal.at.returns-in-Some-2-clause-asked g c).In-Some) (subst (λ (o : Option (Stop GroundListing)). IfSome o (IsStoppedWithin c.args.setting.limits)) c.in-Some.is c.in_ok-stop.ensures.within)
+    asked_of space s c.args.setting.limits true marked stop (stopped_by g (goal.at.returns-in-Some-2-clause-asked g c).In-Some) (subst (λ (o : Option (Stop GroundListing)). IfSome o (IsStoppedWithin c.args.setting.limits)) c.in-Some.is c.in_ok-stop.ensures.within)
     (subst (λ (found : FoundStates GroundListing). (value : List Bool → ℕ) (is_dead : List Bool → Bool) → CanBeMarked value is_dead (listed_states found.store) found.nodes.items found.estimates.items
     → HaveRolesOf value is_dead (listed_states found.store) found.nodes.items marked.marks.items) c.found_at.ensures roles)
     (subst (λ (k : Ground). AreSupported (task_in k) (atoms_in k) s (landmarks_of marked.landmarks) (listed_states (found_at stop).store) (marks_in marked.marks.items)) c.requires.ground

@@ -11,7 +11,7 @@ pub stretches-preserved : goal.stretches-preserved
 stretches-preserved g c =
     let guide = c.args.session.now.guide.now in
     let setting = c.args.session.now.setting in
-    let halt = subst (IsHaltBy setting.space (g.G.Guide.estimate_of guide) (g.G.Guide.is_dead guide) (g.V.ValuesOnDemand.shows c.stretch_asking.new.values) (g.G.Guide.fits guide) c.next_pause-next.result setting.limits.states)
+    let halt = subst (IsHaltBy setting.space (g.G.Guide.estimate_of guide) (g.G.Guide.is_dead guide) g.V.ValuesOnDemand.answers (g.G.Guide.fits guide) c.next_pause-next.result setting.limits.states)
     c.in-Paused.is c.in_ok-outcome.ensures.halt in
     record {
       under_way = halt.0;

@@ -16,11 +16,11 @@ stop_asking-requires-clause-search g c =
     let guide = c.args.session.now.guide.now in
     let estimate = g.G.Guide.estimate_of guide in
     let is_dead = g.G.Guide.is_dead guide in
-    let shown = g.V.ValuesOnDemand.shows c.args.values.now in
+    let answers = g.V.ValuesOnDemand.answers in
     let p = c.args.search.progress in
     let by = c.requires.under_way in
-    subst (λ (u : System (List Bool) ℕ). HoldsIn u estimate is_dead shown listed_states p (λ value dead. IsSearch u (listed_class (store_in c.args.search)) value dead listed_states p)) (sym c.requires.system)
-    (subst (λ (k : List Bool → List Bool). HoldsIn (system_of c.args.session.now.setting.space) estimate is_dead shown listed_states p (λ value dead. IsSearch (system_of c.args.session.now.setting.space) k value dead listed_states p))
+    subst (λ (u : System (List Bool) ℕ). HoldsIn u estimate is_dead answers listed_states p (λ value dead. IsSearch u (listed_class (store_in c.args.search)) value dead listed_states p)) (sym c.requires.system)
+    (subst (λ (k : List Bool → List Bool). HoldsIn (system_of c.args.session.now.setting.space) estimate is_dead answers listed_states p (λ value dead. IsSearch (system_of c.args.session.now.setting.space) k value dead listed_states p))
     (sym by.holds.store_classes) (record { value = by.value; is_dead = by.is_dead; valued = by.valued; holds = by.holds.search }))
 
 pub stop_asking-requires-clause-successors : goal.stop_asking-requires-clause-successors
@@ -46,9 +46,9 @@ returns g c =
     let space = c.args.session.now.setting.space in
     let estimate = g.G.Guide.estimate_of guide in
     let is_dead = g.G.Guide.is_dead guide in
-    let shown = g.V.ValuesOnDemand.shows c.args.values.now in
+    let answers = g.V.ValuesOnDemand.answers in
     let most = c.args.session.now.setting.limits.states in
     let result = c.stop_asking.result in
-    subst (λ (k : List Bool → List Bool). IfOk result (IsTrueStopBy (system_of space) k estimate is_dead shown listed_states most)) c.requires.under_way.holds.store_classes
-    (subst (λ (u : System (List Bool) ℕ). IfOk result (IsTrueStopBy u (listed_class (store_in c.args.search)) estimate is_dead shown listed_states most)) c.requires.system
-    (for_limit (IsTrueStopBy (g.G.Guide.system_of guide) (listed_class (store_in c.args.search)) estimate is_dead shown listed_states) result (length (listed_states (store_in c.args.search))) most c.stop_asking.ensures c.requires.under_way.holds.within))
+    subst (λ (k : List Bool → List Bool). IfOk result (IsTrueStopBy (system_of space) k estimate is_dead answers listed_states most)) c.requires.under_way.holds.store_classes
+    (subst (λ (u : System (List Bool) ℕ). IfOk result (IsTrueStopBy u (listed_class (store_in c.args.search)) estimate is_dead answers listed_states most)) c.requires.system
+    (for_limit (IsTrueStopBy (g.G.Guide.system_of guide) (listed_class (store_in c.args.search)) estimate is_dead answers listed_states) result (length (listed_states (store_in c.args.search))) most c.stop_asking.ensures c.requires.under_way.holds.within))

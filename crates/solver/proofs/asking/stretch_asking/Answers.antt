@@ -44,10 +44,10 @@ go_on_asking-requires-clause-under_way g c =
     let estimate = g.G.Guide.estimate_of guide in
     let is_dead = g.G.Guide.is_dead guide in
     let fits = g.G.Guide.fits guide in
-    let shown = g.V.ValuesOnDemand.shows c.args.values.now in
-    subst (λ (k : Ground). under_way.IsUnderWayBy (means k) (listed_class (store_in c.args.search)) estimate is_dead shown fits listed_states listed_class listed_width (length (atoms_in k)) c.states.result c.args.search) (sym c.ground.ensures)
-    (subst (λ (class_of : List Bool → List Bool). under_way.IsUnderWayBy (system_of space) class_of estimate is_dead shown fits listed_states listed_class listed_width (length (atoms_in (ground_in space))) c.states.result c.args.search)
-    (sym c.requires.under_way.holds.store_classes) (subst (λ (n : ℕ). IsUnderWayBy space estimate is_dead shown fits n c.args.search) (sym c.states.ensures) c.requires.under_way))
+    let answers = g.V.ValuesOnDemand.answers in
+    subst (λ (k : Ground). under_way.IsUnderWayBy (means k) (listed_class (store_in c.args.search)) estimate is_dead answers fits listed_states listed_class listed_width (length (atoms_in k)) c.states.result c.args.search) (sym c.ground.ensures)
+    (subst (λ (class_of : List Bool → List Bool). under_way.IsUnderWayBy (system_of space) class_of estimate is_dead answers fits listed_states listed_class listed_width (length (atoms_in (ground_in space))) c.states.result c.args.search)
+    (sym c.requires.under_way.holds.store_classes) (subst (λ (n : ℕ). IsUnderWayBy space estimate is_dead answers fits n c.args.search) (sym c.states.ensures) c.requires.under_way))
 
 -- what follows from what is so where it succeeded
 weaker : {X E P Q : Type 0} (result : Result X E) → (P → Q) → IfOk result (λ _. P) → IfOk result (λ _. Q)
@@ -67,10 +67,10 @@ returns-clause-halt g c =
     let estimate = g.G.Guide.estimate_of guide in
     let is_dead = g.G.Guide.is_dead guide in
     let fits = g.G.Guide.fits guide in
-    let shown = g.V.ValuesOnDemand.shows c.go_on_asking.new.values in
+    let answers = g.V.ValuesOnDemand.answers in
     let result = c.go_on_asking.result in
-    subst (λ (n : ℕ). IfOk result (under_way.IsTrueHaltBy (system_of space) (class_in space) estimate is_dead shown fits listed_states listed_class listed_width (length (atoms_in (ground_in space))) c.args.pause n)) c.states.ensures
-    (subst (λ (class_of : List Bool → List Bool). IfOk result (under_way.IsTrueHaltBy (system_of space) class_of estimate is_dead shown fits listed_states listed_class listed_width (length (atoms_in (ground_in space))) c.args.pause c.states.result))
+    subst (λ (n : ℕ). IfOk result (under_way.IsTrueHaltBy (system_of space) (class_in space) estimate is_dead answers fits listed_states listed_class listed_width (length (atoms_in (ground_in space))) c.args.pause n)) c.states.ensures
+    (subst (λ (class_of : List Bool → List Bool). IfOk result (under_way.IsTrueHaltBy (system_of space) class_of estimate is_dead answers fits listed_states listed_class listed_width (length (atoms_in (ground_in space))) c.args.pause c.states.result))
     c.requires.under_way.holds.store_classes
-    (subst (λ (k : Ground). IfOk result (under_way.IsTrueHaltBy (means k) (listed_class (store_in c.args.search)) estimate is_dead shown fits listed_states listed_class listed_width (length (atoms_in k)) c.args.pause c.states.result)) c.ground.ensures
+    (subst (λ (k : Ground). IfOk result (under_way.IsTrueHaltBy (means k) (listed_class (store_in c.args.search)) estimate is_dead answers fits listed_states listed_class listed_width (length (atoms_in k)) c.args.pause c.states.result)) c.ground.ensures
     c.go_on_asking.ensures.halt))

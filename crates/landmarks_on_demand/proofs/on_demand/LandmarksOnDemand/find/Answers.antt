@@ -1,11 +1,11 @@
-use Rattle.std.proofs.Common.{◌∙◌, ◌<◌, List, Option, length, ap, subst, sym}
+use Rattle.std.proofs.Common.{◌∙◌, ◌<◌, List, Option, true, length, ap, subst, sym}
 use Rattle.std.specs.Prelude.{IfOk}
+use Rattle.packed_state.specs.Packed.{bits_of}
+use Rattle.model.specs.Grounding.{ground_system}
 use Rattle.landmarks.specs.declared.cut_index.CutIndex.{CutIndex}
-use Rattle.landmarks.specs.CutIndex.{atoms_of}
-use Rattle.search.specs.OnDemand.{Extends}
+use Rattle.landmarks.specs.CutIndex.{atoms_of, task_of}
+use Rattle.search.specs.OnDemand.{IsAnswer}
 use Rattle.landmarks_on_demand.specs.declared.tested.TestedValue.{TestedValue}
-use Rattle.landmarks_on_demand.specs.Shown.{shown_by}
-use Rattle.landmarks_on_demand.proofs.ShownLemmas.{extends_as}
 use Rattle.landmarks_on_demand.proofs.on_demand.LandmarksOnDemand.find.Goals as goal
 
 pub test-requires-clause-draft : goal.test-requires-clause-draft
@@ -20,15 +20,9 @@ keep-requires-clause-width c = c.requires.width ∙ ap (λ (i : CutIndex). lengt
 pub keep-requires-clause-few : goal.keep-requires-clause-few
 keep-requires-clause-few c = subst (λ (values : List (Option TestedValue)). length values < 1048576) (sym c.draft.ensures.values) c.requires.few
 
-pub returns-in_default-clause-extends : goal.returns-in_default-clause-extends
-returns-in_default-clause-extends c = extends_as c.args.self.now.values.items c.draft.new.self.values.items c.draft.ensures.values
-
-pub returns-in_default-2-clause-extends : goal.returns-in_default-2-clause-extends
-returns-in_default-2-clause-extends c = extends_as c.args.self.now.values.items c.draft.new.self.values.items c.draft.ensures.values
-
 pub returns-clause-index : goal.returns-clause-index
 returns-clause-index c = c.keep.ensures.index ∙ c.draft.ensures.index
 
-pub returns-clause-extends : goal.returns-clause-extends
-returns-clause-extends c =
-    subst (λ (values : List (Option TestedValue)). IfOk c.keep.result (λ _. Extends (shown_by values) (shown_by c.keep.new.self.values.items))) c.draft.ensures.values c.keep.ensures.extends
+pub returns-clause-answer : goal.returns-clause-answer
+returns-clause-answer c =
+    subst (λ (i : CutIndex). IfOk c.keep.result (IsAnswer true (ground_system (task_of i) (atoms_of i)) (bits_of c.args.state.now) c.args.value)) c.draft.ensures.index c.keep.ensures.answer

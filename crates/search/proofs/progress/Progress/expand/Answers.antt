@@ -7,10 +7,9 @@ use Rattle.std.proofs.lemmas.Option.{same_Some, slice_get_within}
 use Rattle.model.proofs.ListLemmas.{Contains-here}
 use Rattle.packed_state.specs.Packed.{bits_of}
 use Rattle.search.specs.declared.bases.Bases.{Bases}
-use Rattle.search.specs.declared.bases.Rest.{Rest}
 use Rattle.search.specs.declared.nodes.Node.{Node}
 use Rattle.search.specs.Nodes.{AreClosedBut, AreNodes, Found, Waiting, entry, found_of, marked, marked_as, total_of}
-use Rattle.search.specs.OnDemand.{rest_at, value_on}
+use Rattle.search.specs.OnDemand.{noted_at, value_on}
 use Rattle.search.proofs.Linked.{found_of-get, found_of-set, length-found_of, set_was}
 use Rattle.search.proofs.Lists.{get-set_here, get-set_other}
 use Rattle.search.proofs.Marked.{open_all, nodes_unmarked, open_unmarked}
@@ -79,16 +78,16 @@ loop-action-init g c =
       by = record {
         value = by.value;
         is_dead = by.is_dead;
-        valued = valued_same t (g.G.Guide.estimate_of c.args.problem.now.guide.now) (g.G.Guide.is_dead c.args.problem.now.guide.now) (g.V.ValuesOnDemand.shows c.args.values.now)
+        valued = valued_same t (g.G.Guide.estimate_of c.args.problem.now.guide.now) (g.G.Guide.is_dead c.args.problem.now.guide.now) g.V.ValuesOnDemand.answers
             (found_of (g.L.StateListing.states c.args.self.now.store) c.args.self.now.nodes.items) nodes c.args.self.now.bases begun.bases by.value by.is_dead
-            (λ k. ap (λ (b : Bases). rest_at b k) c.mark.ensures.bases) begins.was by.valued;
+            (λ k. ap (λ (b : Bases). noted_at b k) c.mark.ensures.bases) begins.was by.valued;
         holds = rw same (record {
           search = record { one_each = begins.one_each; nodes = rw c.mark.ensures.open_list begins.nodes; heap = rw c.mark.ensures.open_list turn.heap; single = rw c.mark.ensures.open_list turn.single };
           turn = begins.turn;
           others_open = begins.others_open;
         });
       };
-      rest = refl;
+      noted = refl;
       within = rw c.mark.ensures.store c.requires.within;
       continues = continues_same (g.L.StateListing.class_of begun.store) nodes c.args.turn.id.0;
       class = refl;
@@ -139,7 +138,7 @@ loop-action-preserved g c =
     let reaches = reached.holds in
     record {
       by = record { value = reached.value; is_dead = reached.is_dead; valued = reached.valued; holds = reaches.expanding };
-      rest = reaches.rest ∙ inv.rest;
+      noted = reaches.noted ∙ inv.noted;
       within = reaches.within;
       continues = continues_trans class_of begun nodes after c.args.turn.id.0 inv.continues reaches.continues;
       class = c.in_ok-reach.ensures.class ∙ inv.class;
@@ -180,14 +179,14 @@ returns-then-not-branch-clause-listed g c =
     let same : one ≡ e.turn.found = same_Some one e.turn.found (sym (inv.continues.stays one (has_begun g here).occurs) ∙ e.turn.occurs) in
     let estimate = g.G.Guide.estimate_of c.args.problem.now.guide.now in
     let reported = g.G.Guide.is_dead c.args.problem.now.guide.now in
-    let shown = g.V.ValuesOnDemand.shows c.args.values.now in
+    let answers = g.V.ValuesOnDemand.answers in
     let alive = e.search.nodes.alive i e.turn.found e.turn.occurs e.turn.expanded in
     let same_state : first.holds.found.state ≡ e.turn.found.state = ap (λ (x : Found (List Bool)). x.state) same in
-    let then_is : first.value first.holds.found.state ≡ value_on estimate (rest_at c.args.self.now.bases i) first.holds.found.state = first.valued.value_is i first.holds.found first.holds.occurs first.holds.waits.1 in
-    let now_is : value e.turn.found.state ≡ value_on estimate (rest_at c.loop-action.self.bases i) e.turn.found.state = by.valued.value_is i e.turn.found e.turn.occurs alive in
-    let based : rest_at c.loop-action.self.bases i ≡ rest_at c.args.self.now.bases i = inv.rest ∙ ap (λ (b : Bases). rest_at b i) c.mark.ensures.bases in
+    let then_is : first.value first.holds.found.state ≡ value_on estimate (noted_at c.args.self.now.bases i) first.holds.found.state = first.valued.value_is i first.holds.found first.holds.occurs first.holds.waits.1 in
+    let now_is : value e.turn.found.state ≡ value_on estimate (noted_at c.loop-action.self.bases i) e.turn.found.state = by.valued.value_is i e.turn.found e.turn.occurs alive in
+    let based : noted_at c.loop-action.self.bases i ≡ noted_at c.args.self.now.bases i = inv.noted ∙ ap (λ (b : Bases). noted_at b i) c.mark.ensures.bases in
     let same_value : first.value first.holds.found.state ≡ value e.turn.found.state =
-    then_is ∙ ap (λ (r : Option Rest). value_on estimate r first.holds.found.state) (sym based) ∙ ap (value_on estimate (rest_at c.loop-action.self.bases i)) same_state ∙ sym now_is in
+    then_is ∙ ap (λ (r : ℕ). value_on estimate r first.holds.found.state) (sym based) ∙ ap (value_on estimate (noted_at c.loop-action.self.bases i)) same_state ∙ sym now_is in
     let same_cost : first.holds.found.node.cost ≡ e.turn.found.node.cost = ap (λ (x : Found (List Bool)). x.node.cost) same in
     let sum : c.args.turn.sum ≡ total_of value e.turn.found = omega (arith, first.holds.sum, same_value, same_cost) in
     let t = g.T.TransitionSystem.means c.args.problem.now.system.now in
@@ -207,7 +206,7 @@ returns-then-not-branch-clause-listed g c =
     record {
       value = value;
       is_dead = is_dead;
-      valued = valued_same t estimate reported shown nodes after c.loop-action.self.bases back.bases value is_dead (λ k. ap (λ (b : Bases). rest_at b k) (c.mark-then-not-branch.ensures.bases ∙ full.bases))
+      valued = valued_same t estimate reported answers nodes after c.loop-action.self.bases back.bases value is_dead (λ k. ap (λ (b : Bases). noted_at b k) (c.mark-then-not-branch.ensures.bases ∙ full.bases))
           (λ k n at. set_was nodes waiting i e.turn.found e.turn.occurs refl k n (ap (λ (ns : List (Found (List Bool))). slice_get ns k) (sym is) ∙ at)) by.valued;
       holds = record {
         more = full.more;

@@ -1,7 +1,7 @@
 use Rattle.std.proofs.Common.{◌≡◌, ◌≤◌, Some, length, drop}
 use Rattle.std.specs.Prelude.{slice_get}
 use Rattle.packed_state.specs.Packed.{bits_of}
-use Rattle.search.specs.OnDemand.{rest_at}
+use Rattle.search.specs.OnDemand.{noted_at}
 use Rattle.search.specs.Progress.{HoldsIn, nodes_in, IsExpanding, Continues}
 use Rattle.search.proofs.Steps.{AreLeft}
 use Rattle.search.proofs.progress.Progress.expand.Given as goal
@@ -12,8 +12,8 @@ invariant-loop-action g l =
     let states_of = g.L.StateListing.states in
     let class_of = g.L.StateListing.class_of l.initial.self.store in
     record {
-      by : HoldsIn t (g.G.Guide.estimate_of l.problem.guide.now) (g.G.Guide.is_dead l.problem.guide.now) (g.V.ValuesOnDemand.shows l.values) states_of l.self (λ value is_dead. IsExpanding t class_of value is_dead states_of l.self l.turn.id.0);
-      rest : rest_at l.self.bases l.turn.id.0 ≡ rest_at l.initial.self.bases l.turn.id.0;
+      by : HoldsIn t (g.G.Guide.estimate_of l.problem.guide.now) (g.G.Guide.is_dead l.problem.guide.now) g.V.ValuesOnDemand.answers states_of l.self (λ value is_dead. IsExpanding t class_of value is_dead states_of l.self l.turn.id.0);
+      noted : noted_at l.self.bases l.turn.id.0 ≡ noted_at l.initial.self.bases l.turn.id.0;
       within : length (states_of l.self.store) ≤ l.problem.max_states;
       continues : Continues class_of (nodes_in states_of l.initial.self) (nodes_in states_of l.self) l.turn.id.0;
       class : g.L.StateListing.class_of l.self.store ≡ class_of;

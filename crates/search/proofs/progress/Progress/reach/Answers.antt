@@ -1,6 +1,5 @@
 use Rattle.std.proofs.Common.{◌≡◌, ℕ, ◌+◌, ◌≤◌, ◌<◌, List, Bool, length, get_or, ap, sym, subst, refl, ◌∙◌, arith, Some}
-use Rattle.std.specs.Prelude.{MatchBool, Contains, Option}
-use Rattle.search.specs.declared.bases.Rest.{Rest}
+use Rattle.std.specs.Prelude.{MatchBool, Contains}
 use Rattle.search.specs.declared.bases.Bases.{Bases}
 use Rattle.search.specs.declared.open_list.OpenList.{OpenList}
 use Rattle.search.specs.declared.progress.Progress.{Progress}
@@ -15,6 +14,7 @@ use Rattle.search.specs.Estimates.{IsAdmissible}
 use Rattle.search.specs.Listing.{IsPlacedBy}
 use Rattle.search.specs.Nodes.{found_of}
 use Rattle.search.specs.OnDemand.{AreValued}
+use Rattle.search.specs.Standing.{IsStandingAt}
 use Rattle.search.specs.Progress.{HoldsIn, IsExpanding, IsReachedWithin, IsReachedCheaper, IsListed, IsLeftOut, Reaches, IsFull, TakesPlace}
 use Rattle.search.proofs.Limit.{more_reachable}
 use Rattle.search.proofs.Linked.{found_of-get, length-found_of}
@@ -22,7 +22,6 @@ use Rattle.search.proofs.Reached.{place_among, placed_within, placed_nowhere, fr
 use Rattle.search.proofs.Reaching.{IsStepTo, reached_placed}
 use Rattle.search.proofs.Steps.{turn_limits}
 use Rattle.search.proofs.Standings.{estimate_fits}
-use Rattle.search.proofs.Valued.{AreShown}
 use Rattle.search.proofs.progress.Progress.reach.Given.{Over}
 use Rattle.search.proofs.progress.Progress.reach.Goals.{After-from, In-Some, After-node-node}
 use Rattle.search.proofs.progress.Progress.reach.Goals as goal
@@ -92,11 +91,6 @@ reports : (g : Over) (c : After-from g) → ReportsDeadEnds (g.T.TransitionSyste
 reports g c =
     subst (λ (u : System (List Bool) ℕ). ReportsDeadEnds u (g.G.Guide.is_dead c.args.problem.now.guide.now)) c.requires.made_for (g.met.G.Guide.reports_dead_ends c.args.problem.now.guide.now)
 
-laws : (g : Over) (c : After-from g) → AreShown (g.T.TransitionSystem.means c.args.problem.now.system.now) (g.V.ValuesOnDemand.shows c.args.values.now)
-laws g c =
-    subst (λ (u : System (List Bool) ℕ). AreShown u (g.V.ValuesOnDemand.shows c.args.values.now)) c.requires.values_for
-    (record { admissible = g.met.V.ValuesOnDemand.is_admissible c.args.values.now; dead_ends = g.met.V.ValuesOnDemand.reports_dead_ends c.args.values.now })
-
 pub index-before-requires : goal.index-before-requires
 index-before-requires g c =
     let e = c.requires.expanding.holds in
@@ -142,8 +136,8 @@ standing_at-standing-requires-clause-place g c =
 pub standing_at-standing-requires-clause-width : goal.standing_at-standing-requires-clause-width
 standing_at-standing-requires-clause-width g c = c.requires.width ∙ sym c.requires.values_width
 
-pub standing_at-standing-requires-clause-noted : goal.standing_at-standing-requires-clause-noted
-standing_at-standing-requires-clause-noted g c = λ k rest is. (c.requires.expanding.valued.named k rest is).1
+pub standing_at-standing-requires-clause-fits : goal.standing_at-standing-requires-clause-fits
+standing_at-standing-requires-clause-fits g c = c.requires.expanding.valued.fits
 
 pub returns-in_default-clause-listed : goal.returns-in_default-clause-listed
 returns-in_default-clause-listed g c =
@@ -193,7 +187,7 @@ returns-then-is_reached_within-clause-listed g c =
     record {
       value = by.value;
       is_dead = by.is_dead;
-      valued = subst (λ (ss : List (List Bool)). AreValued t (g.G.Guide.estimate_of c.args.problem.now.guide.now) (g.G.Guide.is_dead c.args.problem.now.guide.now) (g.V.ValuesOnDemand.shows c.args.values.now) (found_of ss all) c.args.self.now.bases by.value by.is_dead) (sym step.0) by.valued;
+      valued = subst (λ (ss : List (List Bool)). AreValued t (g.G.Guide.estimate_of c.args.problem.now.guide.now) (g.G.Guide.is_dead c.args.problem.now.guide.now) g.V.ValuesOnDemand.answers (found_of ss all) c.args.self.now.bases by.value by.is_dead) (sym step.0) by.valued;
       holds = record {
         expanding = record {
           search = record { one_each = step.1.0; nodes = step.1.1.sound; heap = e.search.heap; single = e.search.single };
@@ -203,7 +197,7 @@ returns-then-is_reached_within-clause-listed g c =
         within = placed_within _ _ _ _ _ _ c.requires.within c.in-Some.place placed_at;
         continues = step.1.1.continues;
         listed = step.1.1.listed;
-        rest = refl;
+        noted = refl;
       };
     }
 
@@ -214,7 +208,7 @@ returns-clause-listed g c =
     let t = g.T.TransitionSystem.means c.args.problem.now.system.now in
     let estimate = g.G.Guide.estimate_of c.args.problem.now.guide.now in
     let reported = g.G.Guide.is_dead c.args.problem.now.guide.now in
-    let shown = g.V.ValuesOnDemand.shows c.args.values.now in
+    let answers = g.V.ValuesOnDemand.answers in
     let class_of = g.L.StateListing.class_of c.args.self.now.store in
     let is_current = g.L.StateListing.is_current c.place.new.self in
     let states_of = g.L.StateListing.states in
@@ -231,14 +225,15 @@ returns-clause-listed g c =
     let placed_at = placed g at.In-Some in
     let cheaper : IsReachedCheaper all node.cost place = rw (← c.node-node.ensures.cost, c.if-is_reached_within.false) at c.is_reached_within.ensures in
     if_ok {Q = λ is_listed. MatchBool is_listed
-    (HoldsIn t estimate reported shown states_of new (λ value is_dead. Reaches t class_of value is_dead states_of c.args.self.now new i max_states c.args.to.action s))
-    (HoldsIn t estimate reported shown states_of c.args.self.now (λ value is_dead. IsExpanding t class_of value is_dead states_of c.args.self.now i × IsFull t value is_dead states_of c.args.self.now new max_states))}
+    (HoldsIn t estimate reported answers states_of new (λ value is_dead. Reaches t class_of value is_dead states_of c.args.self.now new i max_states c.args.to.action s))
+    (HoldsIn t estimate reported answers states_of c.args.self.now (λ value is_dead. IsExpanding t class_of value is_dead states_of c.args.self.now i × IsFull t value is_dead states_of c.args.self.now new max_states))}
     c.take_place.result
     (λ is_taken. match_each {B = IsLeftOut states_of old new s max_states} is_taken
     (λ takes.
-    let is = reached_placed t class_of estimate reported shown states_of states old new i max_states e.search.one_each by.value by.is_dead by.valued e.search.nodes e.turn e.others_open
-    (admissible g at.After-from) (reports g at.After-from) (laws g at.After-from) is_current s node c.estimate-estimate.result (step g at.After-node-node) c.requires.within
-    place placed_at cheaper c.standing_at-standing.result c.standing_at-standing.ensures.fits c.standing_at-standing.ensures.standing c.estimate-estimate.ensures.estimate (subst (λ (r : Option Rest). TakesPlace states_of old new s node c.estimate-estimate.result r max_states place) c.rest.ensures takes) in
+    let is = reached_placed t class_of estimate reported answers states_of states old new i max_states e.search.one_each by.value by.is_dead by.valued e.search.nodes e.turn e.others_open
+    (admissible g at.After-from) (reports g at.After-from) is_current s node c.estimate-estimate.result (step g at.After-node-node) c.requires.within
+    place placed_at cheaper c.standing_at-standing.result (subst (λ (u : System (List Bool) ℕ). IsStandingAt answers u all c.args.self.now.bases s place c.standing_at-standing.result) c.requires.values_for c.standing_at-standing.ensures.standing)
+    c.estimate-estimate.ensures.estimate c.rest.result c.rest.ensures takes in
     let of = is.holds in
     record {
       value = is.value;
@@ -253,7 +248,7 @@ returns-clause-listed g c =
         within = of.within;
         continues = of.stepped.continues;
         listed = subst (λ a. IsListed t class_of (found_of (states_of new.store) new.nodes.items) i a s) c.node-node.ensures.action of.stepped.listed;
-        rest = of.rest;
+        noted = of.noted;
       };
     })
     (λ left.

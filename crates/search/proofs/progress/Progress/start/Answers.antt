@@ -1,6 +1,6 @@
 use Rattle.std.proofs.Common.{◌≡◌, refl, ap, ◌∙◌, arith}
 use Rattle.search.specs.declared.bases.Bases.{Bases}
-use Rattle.search.specs.OnDemand.{rest_at}
+use Rattle.search.specs.OnDemand.{noted_at}
 use Rattle.search.specs.OpenList.{waiting_in}
 use Rattle.packed_state.specs.Packed.{bits_of}
 use Rattle.search.specs.Outcome.{is_expanded_status, is_dead_status}
@@ -38,4 +38,4 @@ add-requires-clause-sum g c =
     c.value-value.result 0 c.value-value.ensures.value (omega arith)
 
 pub returns-clause-bases : goal.returns-clause-bases
-returns-clause-bases g c = λ place. ap (λ (b : Bases). rest_at b place) c.in_ok-add.ensures.bases ∙ c.new-2.ensures place
+returns-clause-bases g c = λ place. ap (λ (b : Bases). noted_at b place) c.in_ok-add.ensures.bases ∙ c.new-2.ensures place

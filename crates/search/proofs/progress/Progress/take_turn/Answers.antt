@@ -1,6 +1,5 @@
 use Rattle.std.proofs.Common.{◌≡◌, ◌≤◌, ◌<◌, length, true, false, sym, ap, ◌∙◌, subst, arith}
 use Rattle.std.specs.Prelude.{IfOk, MatchBool}
-use Rattle.faults.proofs.Results.{if_ok}
 use Rattle.packed_state.specs.Packed.{bits_of}
 use Rattle.search.specs.declared.progress.Progress.{Progress}
 use Rattle.search.specs.Nodes.{AreClosed}
@@ -8,13 +7,9 @@ use Rattle.search.specs.Progress.{HoldsIn, IsAtTurn, IsStopped, Expands, TurnsOv
 use Rattle.search.proofs.Deferred.{over_by_ask, over_by_work}
 use Rattle.search.proofs.Reached.{match_each}
 use Rattle.search.proofs.Results.{both_ok}
-use Rattle.search.proofs.Valued.{extends_trans, valued_extends}
 use Rattle.search.proofs.progress.Progress.take_turn.Given.{Over}
 use Rattle.search.proofs.progress.Progress.take_turn.Goals.{In_ok-defer}
 use Rattle.search.proofs.progress.Progress.take_turn.Goals as goal
-
-pub make_room-requires : goal.make_room-requires
-make_room-requires g c = rw c.requires.turn.holds.one_each (omega (arith, c.requires.within, c.requires.limit))
 
 pub defer-requires-clause-values_for : goal.defer-requires-clause-values_for
 defer-requires-clause-values_for g c = c.make_room.ensures.system ∙ c.requires.values_for ∙ sym c.requires.made_for
@@ -23,22 +18,7 @@ pub defer-requires-clause-values_width : goal.defer-requires-clause-values_width
 defer-requires-clause-values_width g c = c.requires.buffers.state ∙ sym c.requires.values_width ∙ sym c.make_room.ensures.width
 
 pub defer-requires-clause-turn : goal.defer-requires-clause-turn
-defer-requires-clause-turn g c =
-    let by = c.requires.turn in
-    let t = g.T.TransitionSystem.means c.args.problem.now.system.now in
-    let estimate = g.G.Guide.estimate_of c.args.problem.now.guide.now in
-    let reported = g.G.Guide.is_dead c.args.problem.now.guide.now in
-    let shown = g.V.ValuesOnDemand.shows c.args.values.now in
-    let shown' = g.V.ValuesOnDemand.shows c.make_room.new.values in
-    let states_of = g.L.StateListing.states in
-    let old = c.args.self.now in
-    let with_room : HoldsIn t estimate reported shown' states_of old (λ value is_dead. IsAtTurn t (g.L.StateListing.class_of old.store) value is_dead states_of old c.args.turn) = record {
-      value = by.value;
-      is_dead = by.is_dead;
-      valued = valued_extends t estimate reported shown shown' c.make_room.ensures.extends (nodes_in states_of old) old.bases by.value by.is_dead by.valued;
-      holds = by.holds;
-    } in
-    rw c.requires.made_for with_room
+defer-requires-clause-turn g c = rw c.requires.made_for c.requires.turn
 
 pub defer-requires-clause-open : goal.defer-requires-clause-open
 defer-requires-clause-open g c = rw c.requires.made_for c.requires.open
@@ -71,7 +51,7 @@ returns-then-branch-clause-over g c =
     let fewer : c.defer.new.buffers.asks < c.args.buffers.now.asks = rw deferred at c.in_ok-defer.ensures.asks in
     let within : length (g.L.StateListing.states c.defer.new.self.store) ≤ c.args.problem.now.max_states = rw c.defer.ensures.store c.requires.within in
     over_by_ask (g.T.TransitionSystem.means c.args.problem.now.system.now) (g.L.StateListing.class_of c.args.self.now.store) (g.G.Guide.estimate_of c.args.problem.now.guide.now) (g.G.Guide.is_dead c.args.problem.now.guide.now)
-    (g.V.ValuesOnDemand.shows c.defer.new.values) g.L.StateListing.states c.args.self.now c.defer.new.self c.args.buffers.now c.defer.new.buffers c.args.problem.now.max_states fewer within
+    g.V.ValuesOnDemand.answers g.L.StateListing.states c.args.self.now c.defer.new.self c.args.buffers.now c.defer.new.buffers c.args.problem.now.max_states fewer within
     (rw (deferred, c.requires.made_for) at c.in_ok-defer.ensures.deferred)
 
 pub expand-requires-clause-values_for : goal.expand-requires-clause-values_for
@@ -82,22 +62,12 @@ expand-requires-clause-values_width g c = c.defer.ensures.values_width ∙ c.mak
 
 pub expand-requires-clause-turn : goal.expand-requires-clause-turn
 expand-requires-clause-turn g c =
-    let by = c.requires.turn in
     let t = g.T.TransitionSystem.means c.args.problem.now.system.now in
     let estimate = g.G.Guide.estimate_of c.args.problem.now.guide.now in
     let reported = g.G.Guide.is_dead c.args.problem.now.guide.now in
-    let shown = g.V.ValuesOnDemand.shows c.args.values.now in
-    let shown' = g.V.ValuesOnDemand.shows c.defer.new.values in
     let states_of = g.L.StateListing.states in
-    let old = c.args.self.now in
     let same = stays g (goal.at.expand-requires-clause-turn g c).In_ok-defer c.if-branch.false in
-    subst (λ (p : Progress _). HoldsIn t estimate reported shown' states_of p (λ value is_dead. IsAtTurn t (g.L.StateListing.class_of p.store) value is_dead states_of p c.args.turn)) (sym same)
-    (record {
-      value = by.value;
-      is_dead = by.is_dead;
-      valued = valued_extends t estimate reported shown shown' (extends_trans c.make_room.ensures.extends c.in_ok-defer.ensures.extends) (nodes_in states_of old) old.bases by.value by.is_dead by.valued;
-      holds = by.holds;
-    })
+    subst (λ (p : Progress _). HoldsIn t estimate reported g.V.ValuesOnDemand.answers states_of p (λ value is_dead. IsAtTurn t (g.L.StateListing.class_of p.store) value is_dead states_of p c.args.turn)) (sym same) c.requires.turn
 
 pub expand-requires-clause-classes : goal.expand-requires-clause-classes
 expand-requires-clause-classes g c = rw c.defer.ensures.store c.requires.classes
@@ -132,16 +102,13 @@ expand-requires-clause-buffers g c = record {
 pub returns-clause-class : goal.returns-clause-class
 returns-clause-class g c = rw c.defer.ensures.store at c.expand.ensures.class
 
-pub returns-clause-extends : goal.returns-clause-extends
-returns-clause-extends g c = if_ok c.expand.result (λ _ _. extends_trans c.make_room.ensures.extends c.in_ok-defer.ensures.extends) c.expand.ensures.width
-
 pub returns-clause-over : goal.returns-clause-over
 returns-clause-over g c =
     let t = g.T.TransitionSystem.means c.args.problem.now.system.now in
     let class_of = g.L.StateListing.class_of in
     let estimate = g.G.Guide.estimate_of c.args.problem.now.guide.now in
     let reported = g.G.Guide.is_dead c.args.problem.now.guide.now in
-    let shown = g.V.ValuesOnDemand.shows c.defer.new.values in
+    let answers = g.V.ValuesOnDemand.answers in
     let states_of = g.L.StateListing.states in
     let old = c.args.self.now in
     let new = c.expand.new.self in
@@ -152,12 +119,12 @@ returns-clause-over g c =
     let kept : c.in_ok-defer.field-0 ≡ false = c.if-branch.false in
     let asks : c.defer.new.buffers.asks ≡ before.asks = rw kept at c.in_ok-defer.ensures.asks in
     let listed = subst (λ (p : Progress _). IfOk c.expand.result (λ is_listed. MatchBool is_listed
-    (HoldsIn t estimate reported shown states_of new (λ value is_dead. Expands t (class_of p.store) value is_dead states_of p new max_states))
-    (HoldsIn t estimate reported shown states_of new (λ value is_dead. IsStopped t (class_of p.store) value is_dead states_of new c.args.turn max_states)))) same c.expand.ensures.listed in
+    (HoldsIn t estimate reported answers states_of new (λ value is_dead. Expands t (class_of p.store) value is_dead states_of p new max_states))
+    (HoldsIn t estimate reported answers states_of new (λ value is_dead. IsStopped t (class_of p.store) value is_dead states_of new c.args.turn max_states)))) same c.expand.ensures.listed in
     both_ok {R = λ is_over. MatchBool is_over
-    (HoldsIn t estimate reported shown states_of new (λ value is_dead. TurnsOver t (class_of old.store) value is_dead states_of old new before after max_states))
-    (HoldsIn t estimate reported shown states_of new (λ value is_dead. IsStopped t (class_of old.store) value is_dead states_of new c.args.turn max_states))}
+    (HoldsIn t estimate reported answers states_of new (λ value is_dead. TurnsOver t (class_of old.store) value is_dead states_of old new before after max_states))
+    (HoldsIn t estimate reported answers states_of new (λ value is_dead. IsStopped t (class_of old.store) value is_dead states_of new c.args.turn max_states))}
     c.expand.result
     (λ is_listed by still. match_each is_listed
-    (over_by_work t (class_of old.store) estimate reported shown states_of old new before after max_states (still ∙ asks)) (λ stopped. stopped) by)
+    (over_by_work t (class_of old.store) estimate reported answers states_of old new before after max_states (still ∙ asks)) (λ stopped. stopped) by)
     listed c.expand.ensures.asks
