@@ -1,7 +1,7 @@
 //! The words that may occur in place of an unexpected one.
 ghost use Rattle.std.specs.Prelude.{◌≡◌, All, IfOk, position};
 ghost use Rattle.model.specs.Words.{Reads};
-ghost use Rattle.pddl_tree_parts.specs.Tree.{file_of};
+ghost use Rattle.pddl_tree.specs.Tree.{file_of};
 ghost use Rattle.explain_faults.specs.Expected.{AreSome, AreSuggested, AreReportedIn, MayFollow, MayOccur, begins_from, words_before};
 
 use explain_hints::is_near;

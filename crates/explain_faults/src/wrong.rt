@@ -6,7 +6,7 @@ ghost use Rattle.tokens.specs.Reported.{refusal_of};
 ghost use Rattle.tokens.specs.Word.{word_of};
 ghost use Rattle.model.specs.Trees.{domain_file, problem_file};
 ghost use Rattle.model.specs.Refusals.{IsRefused};
-ghost use Rattle.pddl_tree_parts.specs.Tree.{file_of};
+ghost use Rattle.pddl_tree.specs.Tree.{file_of};
 ghost use Rattle.explain_faults.specs.Wrong.{GoesWrong, GoesWrongAt, IsRefusedIn};
 
 use explain_hints::{CutTexts, File, FileRefusal, NamedTexts, index_at, opening_of};

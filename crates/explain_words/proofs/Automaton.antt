@@ -11,11 +11,11 @@ use Rattle.tokens.specs.declared.word.Word.{Word}
 use Rattle.model.specs.Grammar.{Sort, Value, Tree, Phrase, and_then, after}
 use Rattle.model.specs.Refusals.{Begins, after_all, start, step}
 use Rattle.model.proofs.GrammarBegins.{begins, dead, fewer}
-use Rattle.pddl_tree_parts.specs.declared.tree.TaskFile as file
-use Rattle.pddl_tree_parts.specs.Tree.{file_of}
-use Rattle.pddl_tree_parts.specs.Token.{first, from, seen}
-use Rattle.pddl_tree_parts.proofs.Here.{first_here}
-use Rattle.pddl_tree_parts.specs.declared.token.Token as code
+use Rattle.pddl_tree.specs.declared.tree.TaskFile as file
+use Rattle.pddl_tree.specs.Tree.{file_of}
+use Rattle.pddl_tree.specs.Token.{first, from, seen}
+use Rattle.pddl_tree.proofs.Here.{first_here}
+use Rattle.pddl_tree.specs.declared.token.Token as code
 use Rattle.explain_words.specs.declared.frames.Frame.{Frame}
 use Rattle.explain_words.specs.declared.frames.Follows.{Follows}
 use Rattle.explain_words.specs.declared.level.Move.{Move}

@@ -10,16 +10,16 @@ use Rattle.model.specs.GrammarWords as words
 use Rattle.model.specs.Refusals.{start}
 use Rattle.model.proofs.GrammarBegins.{is_left}
 use Rattle.explain_words.proofs.Left.{none_left, AreLeft, some_left, are_left, left_is}
-use Rattle.pddl_tree_parts.specs.declared.tree.TaskFile as file
-use Rattle.pddl_tree_parts.specs.declared.token.Token as code
-use Rattle.pddl_tree_parts.specs.declared.token.Token.TheVariants as token
-use Rattle.pddl_tree_parts.specs.declared.token.Keyword.TheVariants as of
-use Rattle.pddl_tree_parts.specs.declared.token.SectionKeyword as section_code
-use Rattle.pddl_tree_parts.specs.declared.token.SectionKeyword.TheVariants as kind
-use Rattle.pddl_tree_parts.specs.declared.token.PartKeyword as part_code
-use Rattle.pddl_tree_parts.specs.declared.token.PartKeyword.TheVariants as part
-use Rattle.pddl_tree_parts.specs.Token.{seen, section_view, part_view}
-use Rattle.pddl_tree_parts.specs.Tree.{file_of}
+use Rattle.pddl_tree.specs.declared.tree.TaskFile as file
+use Rattle.pddl_tree.specs.declared.token.Token as code
+use Rattle.pddl_tree.specs.declared.token.Token.TheVariants as token
+use Rattle.pddl_tree.specs.declared.token.Keyword.TheVariants as of
+use Rattle.pddl_tree.specs.declared.token.SectionKeyword as section_code
+use Rattle.pddl_tree.specs.declared.token.SectionKeyword.TheVariants as kind
+use Rattle.pddl_tree.specs.declared.token.PartKeyword as part_code
+use Rattle.pddl_tree.specs.declared.token.PartKeyword.TheVariants as part
+use Rattle.pddl_tree.specs.Token.{seen, section_view, part_view}
+use Rattle.pddl_tree.specs.Tree.{file_of}
 use Rattle.explain_words.specs.declared.frames.Follows.TheVariants.{Nothing}
 use Rattle.explain_words.specs.declared.level.Level.{Level}
 use Rattle.explain_words.specs.declared.level.Level.TheVariants as level

@@ -2,9 +2,9 @@
 use Rattle.std.specs.Prelude.{List, [], ◌∷◌, ◌++◌}
 use Rattle.std.proofs.Common.{refl, subst}
 use Rattle.model.specs.Grammar.{Sort, Value, Phrase, gives, ◌>>=◌, and_then, listed, many}
-use Rattle.pddl_tree_parts.specs.declared.token.Token as code
-use Rattle.pddl_tree_parts.specs.declared.token.Token.TheVariants as token
-use Rattle.pddl_tree_parts.specs.Token.{seen}
+use Rattle.pddl_tree.specs.declared.token.Token as code
+use Rattle.pddl_tree.specs.declared.token.Token.TheVariants as token
+use Rattle.pddl_tree.specs.Token.{seen}
 use Rattle.explain_words.specs.declared.frames.Nonterminal.{Nonterminal}
 use Rattle.explain_words.specs.Frames.{Follow, IsDone, Requires, list_step, many_step, sort_of}
 

@@ -6,10 +6,10 @@ use Rattle.explain_words.specs.declared.frames.Frame.{Frame}
 use Rattle.explain_words.specs.declared.frames.Frame.TheVariants as frame
 use Rattle.explain_words.specs.declared.frames.Follows as follows
 use Rattle.explain_words.specs.declared.frames.Follows.TheVariants.{Nothing, One, Two, Three, Head}
-use Rattle.pddl_tree_parts.specs.declared.token.Token as token_code
-use Rattle.pddl_tree_parts.specs.declared.token.Token.TheVariants as token
-use Rattle.pddl_tree_parts.specs.Place.{listed_view}
-use Rattle.pddl_tree_parts.specs.Tree.{file_of}
+use Rattle.pddl_tree.specs.declared.token.Token as token_code
+use Rattle.pddl_tree.specs.declared.token.Token.TheVariants as token
+use Rattle.pddl_tree.specs.Place.{listed_view}
+use Rattle.pddl_tree.specs.Tree.{file_of}
 use Rattle.model.specs.GrammarWords.{Token}
 use Rattle.model.specs.Grammar
 use Rattle.model.specs.Grammar.{Sort, Value, Phrase, gives, ◌>>=◌, after}

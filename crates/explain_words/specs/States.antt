@@ -11,17 +11,17 @@ use Rattle.explain_words.specs.declared.frames.Frame.TheVariants as frame
 use Rattle.explain_words.specs.declared.frames.Follows.{Follows}
 use Rattle.explain_words.specs.declared.frames.Follows.TheVariants.{Nothing, One, Two, Three, Head}
 use Rattle.explain_words.specs.Frames.{Requires, IsDone, frames_in, expected_by}
-use Rattle.pddl_tree_parts.specs.declared.refusals.ListElement.TheVariants as listed
-use Rattle.pddl_tree_parts.specs.declared.token.Keyword.TheVariants as keyword
-use Rattle.pddl_tree_parts.specs.declared.token.PartKeyword as part_code
-use Rattle.pddl_tree_parts.specs.declared.token.PartKeyword.TheVariants as part
-use Rattle.pddl_tree_parts.specs.declared.token.SectionKeyword as section_code
-use Rattle.pddl_tree_parts.specs.declared.token.SectionKeyword.TheVariants as section
-use Rattle.pddl_tree_parts.specs.declared.token.Token as token_code
-use Rattle.pddl_tree_parts.specs.declared.token.Token.TheVariants as token
-use Rattle.pddl_tree_parts.specs.declared.tree.TaskFile as task_file
-use Rattle.pddl_tree_parts.specs.Token.{part_view, section_view}
-use Rattle.pddl_tree_parts.specs.Tree.{file_of}
+use Rattle.pddl_tree.specs.declared.refusals.ListElement.TheVariants as listed
+use Rattle.pddl_tree.specs.declared.token.Keyword.TheVariants as keyword
+use Rattle.pddl_tree.specs.declared.token.PartKeyword as part_code
+use Rattle.pddl_tree.specs.declared.token.PartKeyword.TheVariants as part
+use Rattle.pddl_tree.specs.declared.token.SectionKeyword as section_code
+use Rattle.pddl_tree.specs.declared.token.SectionKeyword.TheVariants as section
+use Rattle.pddl_tree.specs.declared.token.Token as token_code
+use Rattle.pddl_tree.specs.declared.token.Token.TheVariants as token
+use Rattle.pddl_tree.specs.declared.tree.TaskFile as task_file
+use Rattle.pddl_tree.specs.Token.{part_view, section_view}
+use Rattle.pddl_tree.specs.Tree.{file_of}
 use Rattle.model.specs.Trees.{TaskFile}
 use Rattle.model.specs.GrammarWords.{Token, SectionKeyword, PartKeyword, parameters}
 use Rattle.model.specs.Grammar.{Sort, Section, Phrase, ◌>>=◌, Tree, value, parts, section, sections, keyword_in, seen_with, left_of, has_all, has_part, has_section, sections_of, required_of}

@@ -4,13 +4,13 @@ ghost use Rattle.tokens.specs.Word.{word_of};
 ghost use Rattle.tokens.specs.declared.word.Word as code;
 ghost use Rattle.model.specs.Trees as tree;
 ghost use Rattle.model.specs.GrammarWords.{tokens_of};
-ghost use Rattle.pddl_tree_parts.specs.Tree.{file_of};
+ghost use Rattle.pddl_tree.specs.Tree.{file_of};
 ghost use Rattle.explain_words.specs.Expected.{AreAll, AreThose, MayFollow, candidates_text};
 ghost use Rattle.explain_words.specs.States.{IsReached, Has, state_of};
 
 use crate::state::State;
 use faults::NoMemory;
-use pddl_tree_parts::{TaskFile, token_at};
+use pddl_tree::{TaskFile, token_at};
 use std::alloc::Global;
 use tokens::{Word, scan};
 

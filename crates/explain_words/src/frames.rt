@@ -1,5 +1,5 @@
 //! The nonterminals of the grammar, as far as a word can find them on top of the automaton's stack.
-use pddl_tree_parts::{ListElement, TaskFile};
+use pddl_tree::{ListElement, TaskFile};
 
 /// A nonterminal that reads words, or what follows the `(` of a list.
 #[derive(Clone, Copy)]

@@ -1,6 +1,6 @@
 //! What is required below the automaton's stack, and its steps.
 use crate::frames::Follows;
-use pddl_tree_parts::{PartKeyword, SectionKeyword};
+use pddl_tree::{PartKeyword, SectionKeyword};
 
 /// What is required below the stack.
 #[derive(Clone, Copy)]

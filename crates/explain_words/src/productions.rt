@@ -1,6 +1,6 @@
 //! The productions of the grammar, from a nonterminal and a word to what must follow the word.
 ghost use Rattle.std.specs.Prelude.{◌≡◌};
-ghost use Rattle.pddl_tree_parts.specs.Token.{seen};
+ghost use Rattle.pddl_tree.specs.Token.{seen};
 ghost use Rattle.model.specs.Grammar as grammar;
 ghost use Rattle.explain_words.specs.Frames.{Follow, list_step, many_step, sort_of, expected_by};
 
@@ -14,7 +14,7 @@ use crate::single_words::{
     after_names, after_number, after_predicate, after_problem, after_term, after_terms,
     after_total_cost, after_type, after_types,
 };
-use pddl_tree_parts::{ListElement, ReservedName, TaskFile, Token};
+use pddl_tree::{ListElement, ReservedName, TaskFile, Token};
 
 /// The list of a quantifier's variables.
 const VARIABLES: Frame = Listed(Nonterminal::Typed(ListElement::Variables));

@@ -1,12 +1,12 @@
 //! The productions of nonterminals that are a word or two, or a list of words.
-ghost use Rattle.pddl_tree_parts.specs.Token.{seen};
+ghost use Rattle.pddl_tree.specs.Token.{seen};
 ghost use Rattle.model.specs.Trees.{domain_file, problem_file};
 ghost use Rattle.model.specs.Grammar as grammar;
 ghost use Rattle.explain_words.specs.Frames.{Follow};
 
 use crate::frames::Follows::{Nothing, One, Three};
 use crate::frames::{Follows, Frame, Nonterminal};
-use pddl_tree_parts::{FreeName, Keyword, ListElement, ReservedName, Token};
+use pddl_tree::{FreeName, Keyword, ListElement, ReservedName, Token};
 
 /// The `)` of a list.
 pub(crate) const CLOSE: Frame = Frame::One(Nonterminal::Close);

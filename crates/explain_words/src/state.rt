@@ -1,7 +1,7 @@
 //! The automaton's state between two words, and its steps.
 ghost use Rattle.std.specs.Prelude.{◌≡◌, ◌++◌, ◌∷◌, OnOk, drop, map, reverse};
 ghost use Rattle.std.specs.List.{list_all};
-ghost use Rattle.pddl_tree_parts.specs.Token.{seen, part_view, section_view};
+ghost use Rattle.pddl_tree.specs.Token.{seen, part_view, section_view};
 ghost use Rattle.model.specs.Grammar as grammar;
 ghost use Rattle.model.specs.Grammar.{Tree, Phrase};
 ghost use Rattle.explain_words.specs.Frames.{frames_in, expected_by};
@@ -11,7 +11,7 @@ use crate::frames::{Follows, Frame, Nonterminal};
 use crate::level::{Level, Move, Occurs};
 use crate::productions::after_frame;
 use faults::NoMemory;
-use pddl_tree_parts::{
+use pddl_tree::{
     Keyword, ListElement, PartKeyword, SectionKeyword, TaskFile, Token, allowed, has_part,
     has_section, required,
 };

@@ -8,9 +8,9 @@ use Rattle.explain_hints.specs.Refusals.{FileRefusal}
 use Rattle.explain_faults.specs.SameMistake.{AreOfOneMistake, Texts}
 use Rattle.typing.specs.Listed.{AreListed, faults_listed}
 use Rattle.typing.specs.Task.{refusal_of}
-use Rattle.pddl_tree_parts.specs.declared.tree.TaskFile.{TaskFile}
-use Rattle.pddl_tree_parts.specs.declared.tree.TaskFile.TheVariants as pair
-use Rattle.pddl_tree_parts.specs.Tree.{file_of}
+use Rattle.pddl_tree.specs.declared.tree.TaskFile.{TaskFile}
+use Rattle.pddl_tree.specs.declared.tree.TaskFile.TheVariants as pair
+use Rattle.pddl_tree.specs.Tree.{file_of}
 use Rattle.explain_hints.specs.Files.{file_view}
 use Rattle.model.specs.Files.{of_task}
 use Rattle.file_answers.specs.Complete.{AreListedOf, IsAccounted, IsComplete, IsReportedAmong, TaskRefusal, fault_in, of_pair, one_of_files}

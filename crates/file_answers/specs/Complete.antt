@@ -2,8 +2,8 @@
 use Rattle.std.specs.Prelude.{◌≡◌, ℕ, ◌≤◌, List, ◌∷◌, Contains, length, map, take, ◌⊎◌}
 use Rattle.faults.specs.Fault.{number_of}
 use Rattle.faults.specs.declared.code.Code.{Code}
-use Rattle.pddl_tree_parts.specs.declared.tree.TaskFile.{TaskFile}
-use Rattle.pddl_tree_parts.specs.declared.tree.TaskFile.TheVariants as pair
+use Rattle.pddl_tree.specs.declared.tree.TaskFile.{TaskFile}
+use Rattle.pddl_tree.specs.declared.tree.TaskFile.TheVariants as pair
 use Rattle.typing.specs.Listed.{AreListed, faults_listed}
 use Rattle.faults.specs.declared.refused.RefusalIn.{RefusalIn}
 use Rattle.explain_hints.specs.Refusals.{FileRefusal}

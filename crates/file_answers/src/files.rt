@@ -2,7 +2,7 @@
 ghost use Rattle.std.specs.Prelude.{◌≡◌, ℕ, All, List, IfOk, IfErr, IfSome, IsTrue};
 ghost use Rattle.std.specs.List.{list_all};
 ghost use Rattle.tokens.specs.Reported.{reported_by};
-ghost use Rattle.pddl_tree_parts.specs.Tree.{domain_of, problem_of};
+ghost use Rattle.pddl_tree.specs.Tree.{domain_of, problem_of};
 ghost use Rattle.task.specs.Task.{task_of, variable_names_of};
 ghost use Rattle.formulas.specs.State.{plan_of};
 ghost use Rattle.file_answers.specs.Files.{reported_in};

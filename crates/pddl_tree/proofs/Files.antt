@@ -1,13 +1,13 @@
 -- The sections of a file, one after another.
-use Rattle.pddl_tree_parts.proofs.Names.{◌≡◌, ℕ, ◌+◌, true, false, cond, ◌||◌, List, [], ◌∷◌, map, fold, Option, Some, None, Result, Ok, Err, refl, sym, ◌∙◌, ap, arith, option_and_then, section_view, Word, from, first, WordFault, made, stops, bind, part, phrase, number_seen, closes_first, opens_first, ReadsInto, MayContinue, Stops, TaskFile, Token, opens, closes, keyword, of_section, of_part, Section, Contents, Phrase, gives, ◌>>=◌, and_then, after, sections, define_word, with_section, is_section, has_section, sections_of, required_of}
+use Rattle.pddl_tree.proofs.Names.{◌≡◌, ℕ, ◌+◌, true, false, cond, ◌||◌, List, [], ◌∷◌, map, fold, Option, Some, None, Result, Ok, Err, refl, sym, ◌∙◌, ap, arith, option_and_then, section_view, Word, from, first, WordFault, made, stops, bind, part, phrase, number_seen, closes_first, opens_first, ReadsInto, MayContinue, Stops, TaskFile, Token, opens, closes, keyword, of_section, of_part, Section, Contents, Phrase, gives, ◌>>=◌, and_then, after, sections, define_word, with_section, is_section, has_section, sections_of, required_of}
 use Rattle.std.proofs.Common.{Bool, ◌&&◌}
 use Rattle.std.specs.List.{list_all}
 use Rattle.model.proofs.Tests.{passes_map}
-use Rattle.pddl_tree_parts.specs.declared.token.SectionKeyword as code
-use Rattle.pddl_tree_parts.specs.declared.word_fault.WordRefusal.{WordRefusal}
+use Rattle.pddl_tree.specs.declared.token.SectionKeyword as code
+use Rattle.pddl_tree.specs.declared.word_fault.WordRefusal.{WordRefusal}
 use Rattle.pddl_tree.specs.Sections.{sections_on, section_into, IsNotNew}
-use Rattle.pddl_tree_parts.proofs.Read.{taken, phrase_then, read_in_turn}
-use Rattle.pddl_tree_parts.proofs.Looks.{is_closes, refused_here, reported_first, reported_along}
+use Rattle.pddl_tree.proofs.Read.{taken, phrase_then, read_in_turn}
+use Rattle.pddl_tree.proofs.Looks.{is_closes, refused_here, reported_first, reported_along}
 use Rattle.model.specs.GrammarWords.{SectionKeyword, requirement_key, left_out_keyword, unknown_keyword}
 use Rattle.model.specs.GrammarWords as words
 use Rattle.model.specs.Grammar.{section, section_of, section_after, keyword_in, seen_with, has_all, left_of}

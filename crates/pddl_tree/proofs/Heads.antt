@@ -1,5 +1,5 @@
 -- The head of a file, from its words one by one.
-use Rattle.pddl_tree_parts.proofs.Names.{◌≡◌, ℕ, ◌+◌, suc, List, [], ◌∷◌, map, length, false, Option, Some, None, refl, sym, ◌∙◌, ap, subst, arith, option_map, option_and_then, Word, word_of, from, first, made, stops, by_rule, part, number_seen, opens_first, TaskFile, Name, Token, opens, closes, free, reserved, token_of, tokens_of, Sort, Value, Phrase, gives, ◌>>=◌, and_then, after, file, define_word, a_name, close, start, number_at}
+use Rattle.pddl_tree.proofs.Names.{◌≡◌, ℕ, ◌+◌, suc, List, [], ◌∷◌, map, length, false, Option, Some, None, refl, sym, ◌∙◌, ap, subst, arith, option_map, option_and_then, Word, word_of, from, first, made, stops, by_rule, part, number_seen, opens_first, TaskFile, Name, Token, opens, closes, free, reserved, token_of, tokens_of, Sort, Value, Phrase, gives, ◌>>=◌, and_then, after, file, define_word, a_name, close, start, number_at}
 use Rattle.std.proofs.Common.{inl, inr, take}
 use Rattle.pddl_tree.specs.Head.{HasHead, HasNoHead, after_head}
 use Rattle.model.specs.Trees.{domain_file, problem_file}
@@ -7,8 +7,8 @@ use Rattle.model.specs.GrammarWords as words
 use Rattle.model.specs.Grammar.{kind_list, kind_word}
 use Rattle.model.specs.Refusals.{Begins, after_all}
 use Rattle.model.proofs.GrammarBegins.{begins}
-use Rattle.pddl_tree_parts.proofs.Read.{part_here, part_none, part_of, from_first}
-use Rattle.pddl_tree_parts.proofs.Looks.{refused_here}
+use Rattle.pddl_tree.proofs.Read.{part_here, part_none, part_of, from_first}
+use Rattle.pddl_tree.proofs.Looks.{refused_here}
 use Rattle.pddl_tree.proofs.Reported.{same_tokens}
 
 -- ---- one word

@@ -1,3 +1,14 @@
+pub mod Rows
+pub mod Here
+pub mod Numbers
+pub mod Names
+pub mod Read
+pub mod Looks
+pub mod Groups
+pub mod FunctionLists
+pub mod EffectValues
+pub mod Seen
+pub mod InitialFacts
 pub mod Parts
 pub mod Files
 pub mod Heads

@@ -1,8 +1,8 @@
 -- The parts of an action, one after another.
-use Rattle.pddl_tree_parts.proofs.Names.{◌≡◌, ℕ, ◌+◌, true, false, cond, List, [], ◌∷◌, ◌++◌, fold, Option, Some, None, Result, Ok, Err, refl, sym, ◌∙◌, ap, arith, option_and_then, Word, from, first, WordFault, made, stops, bind, part, phrase, number_seen, closes_first, opens_first, ReadsInto, MayContinue, formulas, Token, opens, closes, keyword, of_part, gives, ◌>>=◌, after, formula, has_part}
+use Rattle.pddl_tree.proofs.Names.{◌≡◌, ℕ, ◌+◌, true, false, cond, List, [], ◌∷◌, ◌++◌, fold, Option, Some, None, Result, Ok, Err, refl, sym, ◌∙◌, ap, arith, option_and_then, Word, from, first, WordFault, made, stops, bind, part, phrase, number_seen, closes_first, opens_first, ReadsInto, MayContinue, formulas, Token, opens, closes, keyword, of_part, gives, ◌>>=◌, after, formula, has_part}
 use Rattle.pddl_tree.specs.Sections.{parts_on, part_into}
-use Rattle.pddl_tree_parts.proofs.Read.{part_here, part_none, part_of, taken, read_in_turn}
-use Rattle.pddl_tree_parts.proofs.Looks.{is_closes, refused_here, reported_first, reported_along}
+use Rattle.pddl_tree.proofs.Read.{part_here, part_none, part_of, taken, read_in_turn}
+use Rattle.pddl_tree.proofs.Looks.{is_closes, refused_here, reported_first, reported_along}
 use Rattle.model.specs.Trees.{Action}
 use Rattle.model.specs.Trees as tree
 use Rattle.model.specs.GrammarWords.{PartKeyword}

@@ -1,14 +1,14 @@
 -- How the machine reads a whole file, in the terms of the public contracts.
-use Rattle.pddl_tree_parts.proofs.Names.{◌≡◌, ℕ, zero, suc, ◌-◌, ◌<◌, ◌≤◌, List, [], ◌∷◌, map, drop, length, fold, Option, None, Some, refl, sym, ◌∙◌, ap, arith, option_map, Word, word_of, from, first, At, NoMemory, WordFault, reported, Reading, made, stops, bind, part, phrase, number_seen, Reports, Tree, Section, Contents, gives, close, file, sections, tree_from, with_section, TaskFile, Name, Token, token_of, tokens_of, start, Outcome, run, stopped}
+use Rattle.pddl_tree.proofs.Names.{◌≡◌, ℕ, zero, suc, ◌-◌, ◌<◌, ◌≤◌, List, [], ◌∷◌, map, drop, length, fold, Option, None, Some, refl, sym, ◌∙◌, ap, arith, option_map, Word, word_of, from, first, At, NoMemory, WordFault, reported, Reading, made, stops, bind, part, phrase, number_seen, Reports, Tree, Section, Contents, gives, close, file, sections, tree_from, with_section, TaskFile, Name, Token, token_of, tokens_of, start, Outcome, run, stopped}
 use Rattle.std.proofs.Common.{◌≢◌}
 use Rattle.std.specs.Prelude.{IfSome, slice_get}
 use Rattle.std.proofs.lemmas.List.{length-drop, length-map}
 use Rattle.std.proofs.lemmas.Option.{slice_get_past, slice_get-map}
-use Rattle.pddl_tree_parts.specs.Refusal.{fault_of}
+use Rattle.pddl_tree.specs.Refusal.{fault_of}
 use Rattle.pddl_tree.specs.Head.{at_end, no_more, after_head}
 use Rattle.pddl_tree.specs.Sections.{sections_on}
-use Rattle.pddl_tree_parts.proofs.Read.{ends_as, run_part}
-use Rattle.pddl_tree_parts.proofs.Looks.{reported_first}
+use Rattle.pddl_tree.proofs.Read.{ends_as, run_part}
+use Rattle.pddl_tree.proofs.Looks.{reported_first}
 use Rattle.model.specs.Words.{end_of}
 use Rattle.model.specs.Words as text
 use Rattle.model.specs.Grammar.{IsFile, no_contents}

@@ -1,12 +1,12 @@
 -- The head of a file: `( define ( domain NAME )`, or `problem` in place of `domain`; and what follows it, up to the end.
 use Rattle.std.specs.Prelude.{◌≡◌, ℕ, ◌<◌, ◌≤◌, ◌⊎◌, List, [], ◌∷◌, length, take, fold, Result, Ok, Err, ⊤}
 use Rattle.tokens.specs.declared.word.Word.{Word}
-use Rattle.pddl_tree_parts.specs.declared.terms.Name as code
-use Rattle.pddl_tree_parts.specs.declared.word_fault.WordRefusal.{WordRefusal}
-use Rattle.pddl_tree_parts.specs.Terms.{name_of}
-use Rattle.pddl_tree_parts.specs.Token.{from}
-use Rattle.pddl_tree_parts.specs.Refusal.{WordFault}
-use Rattle.pddl_tree_parts.specs.Reading.{Reading, made, stops, bind, part, phrase, Stops, Reports}
+use Rattle.pddl_tree.specs.declared.terms.Name as code
+use Rattle.pddl_tree.specs.declared.word_fault.WordRefusal.{WordRefusal}
+use Rattle.pddl_tree.specs.Terms.{name_of}
+use Rattle.pddl_tree.specs.Token.{from}
+use Rattle.pddl_tree.specs.Refusal.{WordFault}
+use Rattle.pddl_tree.specs.Reading.{Reading, made, stops, bind, part, phrase, Stops, Reports}
 use Rattle.model.specs.GrammarWords.{Token}
 use Rattle.model.specs.Trees.{TaskFile, Name}
 use Rattle.model.specs.Grammar.{Tree, Phrase, gives, ◌>>=◌, file, sections, tree_from, with_section, no_contents}

@@ -1,2 +1,11 @@
+pub mod Terms
+pub mod Tree
+pub mod Token
+pub mod Refusal
+pub mod Reading
+pub mod Place
+pub mod Typed
+pub mod Costs
+pub mod Phrases
 pub mod Sections
 pub mod Head

@@ -1,14 +1,14 @@
 -- The parts of an action and the sections of a file, and how the grammar reads some of them.
 use Rattle.std.specs.Option.{option_map}
 use Rattle.std.specs.Prelude.{map, fold, [], ◌≡◌, ℕ, List, true, Some}
-use Rattle.pddl_tree_parts.specs.Terms.{name_of}
-use Rattle.pddl_tree_parts.specs.Tree.{formula_of, groups_of, predicate_of, action_of, fact_of}
+use Rattle.pddl_tree.specs.Terms.{name_of}
+use Rattle.pddl_tree.specs.Tree.{formula_of, groups_of, predicate_of, action_of, fact_of}
 use Rattle.pddl_tree.specs.declared.sections.Contents.{Contents}
 use Rattle.tokens.specs.declared.word.Word.{Word}
 use Rattle.faults.specs.Fault.{number_of}
-use Rattle.pddl_tree_parts.specs.declared.word_fault.WordRefusal.{WordRefusal}
-use Rattle.pddl_tree_parts.specs.Token.{from, first}
-use Rattle.pddl_tree_parts.specs.Reading.{number_seen}
+use Rattle.pddl_tree.specs.declared.word_fault.WordRefusal.{WordRefusal}
+use Rattle.pddl_tree.specs.Token.{from, first}
+use Rattle.pddl_tree.specs.Reading.{number_seen}
 use Rattle.model.specs.Trees.{TaskFile, Name, Action}
 use Rattle.model.specs.GrammarWords.{PartKeyword, SectionKeyword, keyword, of_section}
 use Rattle.model.specs.Grammar.{Phrase, gives, ◌>>=◌, ◌>>◌, and_then, a_name, close, action_name, parts, part_after, with_part, action_from, sections, section_after, with_section, has_section, sections_of}

@@ -2,18 +2,24 @@
 ghost use Rattle.std.specs.Prelude.{◌≡◌, [], IfOk, IfErr, map, Some, false};
 ghost use Rattle.model.specs.GrammarWords.{keyword, of_part};
 ghost use Rattle.model.specs.Grammar as grammar;
-ghost use Rattle.pddl_tree_parts.specs.Token.{from, first, part_view};
-ghost use Rattle.pddl_tree_parts.specs.Reading.{part, phrase, Reads, ReadsInto, MayContinue, Stops, closes_first};
-ghost use Rattle.pddl_tree_parts.specs.Terms.{name_of};
-ghost use Rattle.pddl_tree_parts.specs.Tree.{action_of, formula_of};
+ghost use Rattle.pddl_tree.specs.Token.{from, first, part_view};
+ghost use Rattle.pddl_tree.specs.Reading.{part, phrase, Reads, ReadsInto, MayContinue, Stops, closes_first};
+ghost use Rattle.pddl_tree.specs.Terms.{name_of};
+ghost use Rattle.pddl_tree.specs.Tree.{action_of, formula_of};
 ghost use Rattle.pddl_tree.specs.Sections.{the_action, parts_on, part_into};
 
+use crate::effects::no_effect;
+use crate::formulas::{formula, no_condition};
+use crate::look::{Parsed, action_name, is_close, open};
+use crate::placing::{put, replace};
+use crate::refusals::{ListElement, Place, has_part, refusal};
+use crate::terms::Name;
+use crate::token::{Keyword, PartKeyword, Token, token_at};
+use crate::tree::{Action, Formula};
+use crate::typed_lists::typed;
+use crate::values::effect_value;
+use crate::word_fault::{WordFault, WordRefusal};
 use faults::Refused;
-use pddl_tree_parts::{
-    Action, Formula, Keyword, ListElement, Name, Parsed, PartKeyword, Place, Token, WordFault,
-    WordRefusal, action_name, effect_value, formula, has_part, is_close, no_condition, no_effect,
-    open, put, refusal, replace, token_at, typed,
-};
 use std::alloc::Global;
 use tokens::Word;
 
@@ -79,7 +85,7 @@ fn part<'a>(
 }
 
 /// Reads the keyword of a part that has not occurred yet.
-#[tactic(auto, using(pddl_tree_parts::proofs::Read::part_here))]
+#[tactic(auto, using(crate::proofs::Read::part_here))]
 fn part_keyword(words: &[Word], at: usize, seen: &[PartKeyword]) -> Result<PartKeyword, WordRefusal>
     ensures word { IfOk result (λ part. first (from words.now at) ≡ Some (keyword (of_part (part_view part)))) }
     ensures new { IfOk result (λ part. grammar.has_part (map part_view seen.now) (part_view part) ≡ false) }

@@ -18,20 +18,21 @@ ghost use Rattle.model.specs.GrammarWords.{tokens_of};
 ghost use Rattle.model.specs.Grammar.{EachIsOneDomain, EachIsOneProblem, IsDomain, IsProblem, IsFile, tree_from};
 ghost use Rattle.model.specs.Refusals.{IsWhole, IsRefused, span_of_place};
 ghost use Rattle.model.specs.GrammarExamples.{AreAsReported};
-ghost use Rattle.pddl_tree_parts.specs.Terms.{name_of};
-ghost use Rattle.pddl_tree_parts.specs.Token.{from};
-ghost use Rattle.pddl_tree_parts.specs.Refusal.{reported, fault_of};
-ghost use Rattle.pddl_tree_parts.specs.Reading.{phrase, Stops};
+ghost use Rattle.pddl_tree.specs.Terms.{name_of};
+ghost use Rattle.pddl_tree.specs.Token.{from};
+ghost use Rattle.pddl_tree.specs.Refusal.{reported, fault_of};
+ghost use Rattle.pddl_tree.specs.Reading.{phrase, Stops};
 ghost use Rattle.pddl_tree.specs.Sections.{contents_of, sections_on};
 ghost use Rattle.pddl_tree.specs.Head.{HasHead, HasNoHead, ReadsHead, ReadsAll, no_more};
-ghost use Rattle.pddl_tree_parts.specs.Tree.{file_of, domain_of, problem_of};
+ghost use Rattle.pddl_tree.specs.Tree.{file_of, domain_of, problem_of};
 
+use crate::look::{close, define, kind, name, open};
+use crate::refusals::{Place, refusal};
 use crate::sections::{Contents, sections};
+use crate::terms::Name;
+use crate::tree::{Domain, Problem, TaskFile};
+use crate::word_fault::{WordFault, WordRefusal};
 use faults::{Fault, Refused, Span, TextRefusal};
-use pddl_tree_parts::{
-    Domain, Name, Place, Problem, TaskFile, WordFault, WordRefusal, close, define, kind, name,
-    open, refusal,
-};
 use std::alloc::Global;
 use tokens::Word;
 

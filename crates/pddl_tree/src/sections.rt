@@ -3,20 +3,26 @@ ghost use Rattle.std.specs.Prelude.{◌≡◌, ◌+◌, [], IfOk, IfErr, map, So
 ghost use Rattle.std.specs.List.{list_all};
 ghost use Rattle.model.specs.GrammarWords.{opens, keyword, of_section};
 ghost use Rattle.model.specs.Grammar as grammar;
-ghost use Rattle.pddl_tree_parts.specs.Terms.{name_of};
-ghost use Rattle.pddl_tree_parts.specs.Token.{from, first, section_view};
-ghost use Rattle.pddl_tree_parts.specs.Reading.{part, phrase, Reads, ReadsInto, MayContinue, Stops, closes_first};
-ghost use Rattle.pddl_tree_parts.specs.Tree.{file_of};
+ghost use Rattle.pddl_tree.specs.Terms.{name_of};
+ghost use Rattle.pddl_tree.specs.Token.{from, first, section_view};
+ghost use Rattle.pddl_tree.specs.Reading.{part, phrase, Reads, ReadsInto, MayContinue, Stops, closes_first};
+ghost use Rattle.pddl_tree.specs.Tree.{file_of};
 ghost use Rattle.pddl_tree.specs.Sections.{contents_of, sections_on, section_into, the_domain, IsNotNew};
 
 use crate::action::action;
+use crate::costs::metric;
+use crate::declared::functions;
+use crate::formulas::{last, no_condition};
+use crate::lists::{Key, list};
+use crate::look::{Parsed, close, is_close, name, open};
+use crate::placing::{put, replace};
+use crate::refusals::{ListElement, Place, allowed, has_section, refusal, required};
+use crate::terms::Name;
+use crate::token::{Keyword, SectionKeyword, Token, token_at};
+use crate::tree::{Action, Fact, Formula, Group, Predicate, TaskFile};
+use crate::typed_lists::typed;
+use crate::word_fault::{WordFault, WordRefusal};
 use faults::{NoMemory, Refused, Span};
-use pddl_tree_parts::{
-    Action, Fact, Formula, Group, Key, Keyword, ListElement, Name, Parsed, Place, Predicate,
-    SectionKeyword, TaskFile, Token, WordFault, WordRefusal, allowed, close, functions,
-    has_section, is_close, last, list, metric, name, no_condition, open, put, refusal, replace,
-    required, token_at, typed,
-};
 use std::alloc::Global;
 use tokens::Word;
 
@@ -157,7 +163,7 @@ fn section_keyword(
 }
 
 /// Parses a section, whose keyword was read, into the contents: the index after it.
-#[tactic(auto, using(pddl_tree_parts::proofs::Looks::put_in))]
+#[tactic(auto, using(crate::proofs::Looks::put_in))]
 fn section_rest<'a>(
     alloc: Global,
     words: &[Word<'a>],

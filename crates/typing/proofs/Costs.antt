@@ -5,8 +5,8 @@ use Rattle.std.specs.List.{list_any}
 use Rattle.std.specs.Option.{option_map, option_map_or, option_copied}
 use Rattle.std.proofs.lemmas.List.Folds.{list_any-append}
 use Rattle.std.proofs.Math.Bool.{or-false, or_assoc}
-use Rattle.pddl_tree_parts.specs.declared.terms.Name.{Name}
-use Rattle.pddl_tree_parts.specs.Tree.{name_of}
+use Rattle.pddl_tree.specs.declared.terms.Name.{Name}
+use Rattle.pddl_tree.specs.Tree.{name_of}
 use Rattle.model.specs.Task as task
 use Rattle.model.specs.Trees.{TaskFile, problem_file}
 use Rattle.model.specs.Trees as tree

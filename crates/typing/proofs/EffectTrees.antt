@@ -5,9 +5,9 @@ use Rattle.std.specs.List.{flat_map}
 use mathlib.Core.Former.{Count}
 use Rattle.task.specs.declared.schemas.Effect.{Effect, Row_of-Effect, end_of-Effect, more_of-Effect, items-the_row-Effect, items_hidden-the_row-Effect-0}
 use Rattle.task.specs.declared.schemas.Effect as effect
-use Rattle.pddl_tree_parts.specs.declared.tree.Effect as read_effect
-use Rattle.pddl_tree_parts.specs.Tree as read
-use Rattle.pddl_tree_parts.proofs.Rows as rows
+use Rattle.pddl_tree.specs.declared.tree.Effect as read_effect
+use Rattle.pddl_tree.specs.Tree as read
+use Rattle.pddl_tree.proofs.Rows as rows
 use Rattle.task.specs.TaskParts.{effect_of, effects_of}
 use Rattle.model.specs.Task as task
 use Rattle.model.specs.Trees.{TaskFile, effects}

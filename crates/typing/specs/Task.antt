@@ -1,5 +1,5 @@
 -- The faults that are reported for a pair, in the model's terms.
-pub use Rattle.pddl_tree_parts.specs.Tree.{file_of}
+pub use Rattle.pddl_tree.specs.Tree.{file_of}
 pub use Rattle.typing_names.specs.QuantifiedNames.{variable_names}
 pub use Rattle.typing_names.specs.Refusals.{refusal_of, PairFault, TaskFault, ReportsAll}
 use Rattle.faults.specs.declared.refused.Refused.TheVariants.{At, NoMemory}

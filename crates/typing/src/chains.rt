@@ -7,13 +7,13 @@ ghost use Rattle.typing.specs.Task.{ReportsAll};
 ghost use Rattle.typing.specs.Chains.{AreTypes, cycles};
 ghost use Rattle.typing.specs.Declarations.{type_faults_of, AreTypesOf};
 ghost use Rattle.typing_names.specs.Walk.{Finds};
-ghost use Rattle.pddl_tree_parts.specs.Tree as read;
+ghost use Rattle.pddl_tree.specs.Tree as read;
 ghost use Rattle.model.specs.Typing as typing;
 
 use crate::{PairFault, TaskFile};
 use faults::{Code, NoMemory};
 use indexmap::IndexMap;
-use pddl_tree_parts::{Domain, Problem};
+use pddl_tree::{Domain, Problem};
 use std::alloc::Global;
 use task::TypeId;
 use typing_names::typed_lists::{Declared, collect};

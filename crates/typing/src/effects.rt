@@ -6,13 +6,13 @@ ghost use Rattle.typing_names.specs.Resolver.{file_in, known_to};
 ghost use Rattle.typing_names.specs.Scope.{known_of};
 ghost use Rattle.typing.specs.Task.{file_of};
 ghost use Rattle.typing_names.specs.Walk.{Finds};
-ghost use Rattle.pddl_tree_parts.specs.Tree as read;
+ghost use Rattle.pddl_tree.specs.Tree as read;
 ghost use Rattle.model.specs.Task as task;
 ghost use Rattle.model.specs.Typing as typing;
 
 use faults::NoMemory;
-use pddl_tree_parts as tree;
-use pddl_tree_parts::Group;
+use pddl_tree as tree;
+use pddl_tree::Group;
 use std::alloc::Global;
 use task::{Effect, EffectLiteral, TypeUnion};
 use typing_names::formulas::{enter, formula};

@@ -1,6 +1,6 @@
 //! All faults of a pair that are found before one of them hides what comes after it.
 ghost use Rattle.std.specs.Prelude.{◌≡◌, ◌++◌, List, [], IfErr, IfOk, OnOk};
-ghost use Rattle.pddl_tree_parts.specs.Tree.{domain_of, problem_of};
+ghost use Rattle.pddl_tree.specs.Tree.{domain_of, problem_of};
 ghost use Rattle.typing_names.specs.Resolver.{file_in, known_to};
 ghost use Rattle.typing_names.specs.Walk.{Finds};
 ghost use Rattle.typing.specs.Task.{ReportsAll};
@@ -13,7 +13,7 @@ use crate::names::Names;
 use crate::statements::walked_init;
 use crate::{PairFault, TaskFile, TaskRefusal};
 use faults::{NoMemory, Refused};
-use pddl_tree_parts::{Domain, Problem};
+use pddl_tree::{Domain, Problem};
 use std::alloc::Global;
 use typing_names::formulas::formula;
 use typing_names::{Resolver, Walk};

@@ -3,7 +3,7 @@ ghost use Rattle.std.specs.Prelude.{◌≡◌, ◌≤◌, [], length, IfErr, IfO
 
 use crate::{PairFault, TaskFile, chains, declarations, functions, objects, statements};
 use indexmap::IndexMap;
-use pddl_tree_parts::{Domain, Problem};
+use pddl_tree::{Domain, Problem};
 use std::alloc::Global;
 use task::{Atom, Predicate, TypeId};
 use typing_names::formulas::FormulaWithNames;
@@ -33,7 +33,7 @@ impl Names {
     ghost use Rattle.typing.specs.Task.{ReportsAll};
     ghost use Rattle.typing.specs.Declarations.{declared_faults, known_in_names, AreNamesOf};
     ghost use Rattle.typing_names.specs.Scope.{known_outside};
-    ghost use Rattle.pddl_tree_parts.specs.Tree.{domain_of, file_of, problem_of};
+    ghost use Rattle.pddl_tree.specs.Tree.{domain_of, file_of, problem_of};
     ghost use Rattle.model.specs.Trees.{domain_file, problem_file};
 
     /// The names that a domain and a problem declare, after checking the declarations and the metric.
@@ -98,7 +98,7 @@ impl Start {
     ghost use Rattle.typing.specs.Task.{file_of, ReportsAll};
     ghost use Rattle.typing_names.specs.Scope.{known_outside};
     ghost use Rattle.typing.specs.Declarations.{stated_faults_in, Starts};
-    ghost use Rattle.pddl_tree_parts.specs.Tree.{problem_of};
+    ghost use Rattle.pddl_tree.specs.Tree.{problem_of};
 
     /// The problem's initial state and goal, given the names visible in it.
     pub(crate) fn stated_in(

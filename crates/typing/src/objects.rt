@@ -6,7 +6,7 @@ ghost use Rattle.typing.specs.DeclaredObjects.{AreMade, AreObjects};
 ghost use Rattle.typing_names.specs.Scope.{keys_in};
 ghost use Rattle.typing.specs.Task.{ReportsAll};
 ghost use Rattle.typing_names.specs.Walk.{Finds};
-ghost use Rattle.pddl_tree_parts.specs.Tree as read;
+ghost use Rattle.pddl_tree.specs.Tree as read;
 ghost use Rattle.model.specs.Trees.{domain_file, problem_file};
 ghost use Rattle.model.specs.Typing as typing;
 
@@ -14,7 +14,7 @@ use crate::names::DeclaredObjects;
 use crate::{PairFault, TaskFile};
 use faults::NoMemory;
 use indexmap::IndexMap;
-use pddl_tree_parts::{Domain, Group, Problem};
+use pddl_tree::{Domain, Group, Problem};
 use std::alloc::Global;
 use task::{MAX_OBJECTS, TypeId};
 use typing_names::domain::declare;

@@ -5,13 +5,13 @@ ghost use Rattle.task.specs.VariableNames.{VariableNames};
 ghost use Rattle.typing.specs.Task.{ReportsAll, ReportsFault, ReportsFaults, ReportsLeastFault, ReportsLeastOf, variable_names};
 ghost use Rattle.model.specs.Task as task;
 ghost use Rattle.model.specs.TypingFaults as typing_faults;
-ghost use Rattle.pddl_tree_parts.specs.Tree.{domain_of, problem_of};
+ghost use Rattle.pddl_tree.specs.Tree.{domain_of, problem_of};
 ghost use Rattle.model.specs.Typing.{task_of_trees, ListsNoFault, TypingFault};
 
 use crate::names::{Names, Start};
 use crate::{PairFault, TaskFault, actions};
 use faults::Refused;
-use pddl_tree_parts::{Domain, Problem};
+use pddl_tree::{Domain, Problem};
 use std::alloc::Global;
 use task::{Task, TaskParts};
 

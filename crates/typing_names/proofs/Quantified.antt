@@ -3,10 +3,10 @@ use Rattle.std.proofs.Common.{◌≡◌, List, [], ◌∷◌, ◌++◌, map, ref
 use Rattle.std.proofs.lemmas.List.{map-append}
 use Rattle.std.specs.Global.{Vec}
 use Rattle.std.specs.List.{flat_map}
-use Rattle.pddl_tree_parts.specs.declared.tree.Formula.{Formula}
-use Rattle.pddl_tree_parts.specs.declared.tree.Formula as formula
-use Rattle.pddl_tree_parts.specs.Tree.{formula_of}
-use Rattle.pddl_tree_parts.proofs.Rows.{formula_of-And, formula_of-Or}
+use Rattle.pddl_tree.specs.declared.tree.Formula.{Formula}
+use Rattle.pddl_tree.specs.declared.tree.Formula as formula
+use Rattle.pddl_tree.specs.Tree.{formula_of}
+use Rattle.pddl_tree.proofs.Rows.{formula_of-And, formula_of-Or}
 use Rattle.typing_names.specs.QuantifiedNames.{declared_names, quantified_names, quantified_names_in_all}
 use Rattle.typing_names.specs.TypedLists.{declared_of}
 use Rattle.typing_names.specs.declared.typed_lists.Declared.{Declared}

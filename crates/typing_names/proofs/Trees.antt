@@ -5,9 +5,9 @@ use Rattle.std.specs.List.{flat_map}
 use mathlib.Core.Former.{Count}
 use Rattle.task.specs.declared.schemas.Formula.{Formula, Row_of-Formula, end_of-Formula, more_of-Formula, items-the_row-Formula, items_hidden-the_row-Formula-0}
 use Rattle.task.specs.declared.schemas.Formula as formula
-use Rattle.pddl_tree_parts.specs.declared.tree.Formula as read_formula
-use Rattle.pddl_tree_parts.specs.Tree as read
-use Rattle.pddl_tree_parts.proofs.Rows as rows
+use Rattle.pddl_tree.specs.declared.tree.Formula as read_formula
+use Rattle.pddl_tree.specs.Tree as read
+use Rattle.pddl_tree.proofs.Rows as rows
 use Rattle.task.specs.TaskParts.{formula_of, formulas_of}
 use Rattle.model.specs.Task as task
 use Rattle.model.specs.Trees.{TaskFile, formulas}

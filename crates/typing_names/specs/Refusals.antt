@@ -1,9 +1,9 @@
 -- The faults that typing reports, in the model's terms.
 use Rattle.std.specs.Prelude.{◌≡◌, List, map, take}
 use Rattle.faults.specs.Fault.{number_of}
-use Rattle.pddl_tree_parts.specs.Tree.{file_of}
+use Rattle.pddl_tree.specs.Tree.{file_of}
 use Rattle.typing_names.specs.declared.fault.PairRefusal.{PairRefusal}
-use Rattle.pddl_tree_parts.specs.declared.tree.TaskFile.{TaskFile}
+use Rattle.pddl_tree.specs.declared.tree.TaskFile.{TaskFile}
 use Rattle.faults.specs.declared.refused.RefusalIn.{RefusalIn}
 use Rattle.faults.specs.declared.refused.Refused.{Refused}
 use Rattle.faults.specs.declared.refused.Refused.TheVariants.{At, NoMemory}

@@ -1,7 +1,7 @@
 -- The names visible to a resolver, in the model's terms.
 use Rattle.typing_names.specs.declared.resolver.Resolver.{Resolver}
 use Rattle.typing_names.specs.Scope.{known_over}
-use Rattle.pddl_tree_parts.specs.Tree.{file_of}
+use Rattle.pddl_tree.specs.Tree.{file_of}
 use Rattle.model.specs.Trees.{TaskFile}
 use Rattle.model.specs.Typing.{Known}
 

@@ -2,9 +2,9 @@
 use Rattle.std.specs.Prelude.{List, map}
 use Rattle.typing_names.specs.declared.typed_lists.Declared.{Declared}
 use Rattle.typing_names.specs.declared.typed_lists.Placed.{Placed}
-use Rattle.pddl_tree_parts.specs.Tree.{file_of}
-use Rattle.pddl_tree_parts.specs.Tree.{name_of}
-use Rattle.pddl_tree_parts.specs.declared.terms.Name.{Name}
+use Rattle.pddl_tree.specs.Tree.{file_of}
+use Rattle.pddl_tree.specs.Tree.{name_of}
+use Rattle.pddl_tree.specs.declared.terms.Name.{Name}
 use Rattle.model.specs.Trees.{TaskFile}
 use Rattle.model.specs.Trees as tree
 use Rattle.model.specs.Typing as typing

@@ -4,7 +4,7 @@ ghost use Rattle.typing_names.specs.TypedLists.{declared_of, placed_in};
 ghost use Rattle.typing_names.specs.Scope.{keys_in, IsAdded};
 ghost use Rattle.typing_names.specs.Refusals.{ReportsAll};
 ghost use Rattle.typing_names.specs.Walk.{Finds};
-ghost use Rattle.pddl_tree_parts.specs.Tree as read;
+ghost use Rattle.pddl_tree.specs.Tree as read;
 ghost use Rattle.model.specs.Trees.{problem_file};
 ghost use Rattle.model.specs.Typing as typing;
 
@@ -15,7 +15,7 @@ use crate::walk::Walk;
 use crate::{PairFault, TaskFile};
 use faults::{Code, NoMemory};
 use indexmap::IndexMap;
-use pddl_tree_parts::{Domain, Name, Problem};
+use pddl_tree::{Domain, Name, Problem};
 use std::alloc::Global;
 use task::TypeId;
 

@@ -4,7 +4,7 @@ ghost use Rattle.typing_names.specs.Refusals.{refusal_of};
 ghost use Rattle.model.specs.Typing.{is_before};
 
 use faults::{RefusalIn, Refused};
-use pddl_tree_parts::TaskFile;
+use pddl_tree::TaskFile;
 
 /// A pair of a domain and a problem is not well-typed: the refused file, the code and the place.
 pub type TaskRefusal = RefusalIn<TaskFile>;

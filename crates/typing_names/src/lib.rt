@@ -13,7 +13,7 @@ pub mod variables;
 mod walk;
 
 pub use fault::{PairFault, PairRefusal, TaskFault, TaskRefusal};
-pub use pddl_tree_parts::TaskFile;
+pub use pddl_tree::TaskFile;
 pub use resolver::Resolver;
 pub use scope::{Globals, Scope, declares_cost};
 pub use type_names::TypeTable;

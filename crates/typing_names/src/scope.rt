@@ -1,7 +1,7 @@
 //! Atoms: from names to numbers.
 ghost use Rattle.std.specs.Prelude.{◌≡◌, ◌≤◌, length, map};
 ghost use Rattle.std.specs.List.{list_any};
-ghost use Rattle.pddl_tree_parts.specs.Tree as read;
+ghost use Rattle.pddl_tree.specs.Tree as read;
 ghost use Rattle.task.specs.TaskParts as parts;
 ghost use Rattle.model.specs.Typing.{names_of_predicates, total_cost, is_same, word_of};
 
@@ -11,8 +11,8 @@ use crate::walk::Walk;
 use arrayvec::ArrayVec;
 use faults::{Code, NoMemory};
 use indexmap::IndexMap;
-use pddl_tree_parts as tree;
-use pddl_tree_parts::{GroundAtom, Name};
+use pddl_tree as tree;
+use pddl_tree::{GroundAtom, Name};
 use task::{
     Atom, LiftedAtom, MAX_ARGUMENTS, ObjectId, Predicate, PredicateId, Term, TypeId, TypeUnion,
     VariableId, all_below, is_below,
@@ -82,7 +82,7 @@ impl Scope<'_> {
     ghost use Rattle.std.specs.Prelude.{[], nat_lt, slice_get, is_some, if◌then◌else◌, take, None, Some, IfOk, OnOk};
     ghost use Rattle.std.specs.List.{list_all};
     ghost use Rattle.std.specs.Option.{option_map, option_map_or};
-    ghost use Rattle.pddl_tree_parts.specs.Tree.{file_of};
+    ghost use Rattle.pddl_tree.specs.Tree.{file_of};
     ghost use Rattle.typing_names.specs.Scope.{argument_faults, arguments_at, known_of, narrow_atom_in};
     ghost use Rattle.typing_names.specs.Walk.{Finds};
     ghost use Rattle.model.specs.Task.{variable, object};

@@ -6,7 +6,7 @@ use crate::typed_lists::Declared;
 use crate::walk::fold;
 use faults::NoMemory;
 use indexmap::IndexMap;
-use pddl_tree_parts::Name;
+use pddl_tree::Name;
 use std::alloc::Global;
 use task::{TypeId, TypeUnion};
 
@@ -30,7 +30,7 @@ fn object_alone(alloc: Global) -> Result<Vec<TypeId>, NoMemory>
 impl TypeTable {
     ghost use Rattle.typing_names.specs.TypedLists.{declared_of};
     ghost use Rattle.typing_names.specs.Scope.{keys_in};
-    ghost use Rattle.pddl_tree_parts.specs.Tree as read;
+    ghost use Rattle.pddl_tree.specs.Tree as read;
     ghost use Rattle.model.specs.Typing as typing;
 
     /// The number of a name: its place, or the number of names if it has none.

@@ -1,15 +1,15 @@
 //! The declarations of typed lists, name by name.
 ghost use Rattle.std.specs.Prelude.{◌≡◌, ◌++◌, map, IfOk, OnOk};
 ghost use Rattle.typing_names.specs.TypedLists.{declared_by, declared_of};
-ghost use Rattle.pddl_tree_parts.specs.Tree.{file_of};
+ghost use Rattle.pddl_tree.specs.Tree.{file_of};
 ghost use Rattle.typing_names.specs.Walk.{Finds};
-ghost use Rattle.pddl_tree_parts.specs.Tree as read;
+ghost use Rattle.pddl_tree.specs.Tree as read;
 ghost use Rattle.model.specs.Typing as typing;
 
 use crate::TaskFile;
 use crate::walk::Walk;
 use faults::{Code, NoMemory};
-use pddl_tree_parts::{Group, Name};
+use pddl_tree::{Group, Name};
 use std::alloc::Global;
 
 /// A name in a file.

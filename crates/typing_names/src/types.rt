@@ -2,9 +2,9 @@
 ghost use Rattle.std.specs.Prelude.{◌≡◌, map, OnOk};
 ghost use Rattle.typing_names.specs.TypedLists.{declared_of};
 ghost use Rattle.typing_names.specs.Scope.{keys_in};
-ghost use Rattle.pddl_tree_parts.specs.Tree.{file_of};
+ghost use Rattle.pddl_tree.specs.Tree.{file_of};
 ghost use Rattle.typing_names.specs.Walk.{Finds};
-ghost use Rattle.pddl_tree_parts.specs.Tree as read;
+ghost use Rattle.pddl_tree.specs.Tree as read;
 ghost use Rattle.model.specs.Typing as typing;
 ghost use Rattle.std.specs.List.{flat_map};
 
@@ -13,7 +13,7 @@ use crate::typed_lists::Declared;
 use crate::walk::Walk;
 use faults::{Code, NoMemory};
 use indexmap::IndexMap;
-use pddl_tree_parts::Name;
+use pddl_tree::Name;
 use task::TypeId;
 
 /// Refuses a type that is unknown.

@@ -2,13 +2,13 @@
 ghost use Rattle.std.specs.Prelude.{◌≡◌, ◌≤◌, [], if◌then◌else◌, IfErr, IfOk, OnOk};
 ghost use Rattle.std.specs.Vec.{vec_capacity};
 ghost use Rattle.typing_names.specs.declared.walk.TheConstants.{MAX_LISTED};
-ghost use Rattle.pddl_tree_parts.specs.Tree.{name_of};
+ghost use Rattle.pddl_tree.specs.Tree.{name_of};
 ghost use Rattle.model.specs.Typing.{folded, refused_word};
 
 use crate::TaskFile;
 use crate::fault::{PairFault, PairRefusal, TaskRefusal, precedes};
 use faults::{Code, NoMemory, RefusalIn, Refused};
-use pddl_tree_parts::Name;
+use pddl_tree::Name;
 use std::alloc::Global;
 
 /// The maximum number of faults that are listed.
@@ -129,7 +129,7 @@ pub(crate) fn fold(room: &mut Vec<u8>, name: &Name<'_>) -> Result<(), NoMemory>
 impl Walk {
     ghost use Rattle.std.specs.Prelude.{None};
     ghost use Rattle.typing_names.specs.Walk.{ReportsFound, found, found_by, nothing};
-    ghost use Rattle.pddl_tree_parts.specs.Tree.{file_of};
+    ghost use Rattle.pddl_tree.specs.Tree.{file_of};
     ghost use Rattle.faults.specs.Fault.{number_of};
 
     /// A walk that has found no fault yet.

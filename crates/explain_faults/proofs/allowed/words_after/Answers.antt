@@ -1,5 +1,5 @@
 use Rattle.std.proofs.Common.{◌<◌, length, rules}
-use Rattle.pddl_tree_parts.specs.Tree.{file_of}
+use Rattle.pddl_tree.specs.Tree.{file_of}
 use Rattle.explain_faults.specs.Expected.{IsOfKeyword, MayFollow}
 use Rattle.explain_faults.proofs.Candidates.{follow_all, some_hold, reported_all, stated_some}
 use Rattle.explain_faults.proofs.allowed.words_after.Goals as goal

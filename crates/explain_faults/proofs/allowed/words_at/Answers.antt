@@ -1,4 +1,4 @@
-use Rattle.pddl_tree_parts.specs.Tree.{file_of}
+use Rattle.pddl_tree.specs.Tree.{file_of}
 use Rattle.explain_faults.proofs.ExpectedWords.{are_reported, may_occur}
 use Rattle.explain_faults.proofs.allowed.words_at.Goals as goal
 

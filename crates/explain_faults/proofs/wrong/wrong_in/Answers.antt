@@ -1,5 +1,5 @@
 use Rattle.std.proofs.Common.{◌≡◌, ◌++◌, take, rules}
-use Rattle.pddl_tree_parts.specs.Tree.{file_of}
+use Rattle.pddl_tree.specs.Tree.{file_of}
 use Rattle.explain_faults.proofs.WrongLemmas.{goes_wrong}
 use Rattle.explain_faults.proofs.wrong.wrong_in.Goals as goal
 

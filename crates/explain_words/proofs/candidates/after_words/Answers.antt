@@ -3,8 +3,8 @@ use Rattle.std.proofs.lemmas.List.{take_all}
 use Rattle.tokens.specs.Word.{word_of}
 use Rattle.tokens.specs.declared.word.Word.{Word}
 use Rattle.model.specs.GrammarWords.{tokens_of}
-use Rattle.pddl_tree_parts.specs.Tree.{file_of}
-use Rattle.pddl_tree_parts.specs.Token.{seen}
+use Rattle.pddl_tree.specs.Tree.{file_of}
+use Rattle.pddl_tree.specs.Token.{seen}
 use Rattle.explain_words.specs.States.{Has, Steps, state_of}
 use Rattle.explain_words.proofs.Automaton.{has_none, is_moved, stopped, took}
 use Rattle.explain_words.proofs.candidates.after_words.Goals as goal

@@ -1,7 +1,7 @@
 use Rattle.std.proofs.Common.{map, take}
 use Rattle.tokens.specs.Word.{word_of}
 use Rattle.model.specs.GrammarWords.{tokens_of}
-use Rattle.pddl_tree_parts.specs.Tree.{file_of}
+use Rattle.pddl_tree.specs.Tree.{file_of}
 use Rattle.explain_words.specs.States.{Has, state_of}
 use Rattle.explain_words.proofs.candidates.after_words.Given as goal
 

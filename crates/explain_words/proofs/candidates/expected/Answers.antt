@@ -1,4 +1,4 @@
-use Rattle.pddl_tree_parts.specs.Tree.{file_of}
+use Rattle.pddl_tree.specs.Tree.{file_of}
 use Rattle.explain_words.proofs.Reported.{all_reported}
 use Rattle.explain_words.proofs.candidates.expected.Goals as goal
 

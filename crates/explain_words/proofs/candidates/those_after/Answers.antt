@@ -2,7 +2,7 @@ use Rattle.std.proofs.Common.{List, map, subst, sym}
 use Rattle.tokens.specs.Word.{word_of}
 use Rattle.tokens.specs.declared.word.Word.{Word}
 use Rattle.model.specs.GrammarWords.{tokens_of}
-use Rattle.pddl_tree_parts.specs.Tree.{file_of}
+use Rattle.pddl_tree.specs.Tree.{file_of}
 use Rattle.explain_words.specs.Expected.{AreThose, MayFollow}
 use Rattle.explain_words.specs.States.{IsReached}
 use Rattle.explain_words.proofs.Reported.{none_follow, none_stated}

@@ -1,5 +1,5 @@
 use Rattle.std.proofs.Common.{subst, sym}
-use Rattle.pddl_tree_parts.specs.Token.{seen}
+use Rattle.pddl_tree.specs.Token.{seen}
 use Rattle.explain_words.specs.declared.frames.Frame.TheVariants.{Listed, ManyListed}
 use Rattle.explain_words.specs.Frames.{Follow, expected_by}
 use Rattle.explain_words.proofs.Stacked.{list_follows, many_follow}

@@ -1,7 +1,7 @@
 use Rattle.std.proofs.Common.{◌∙◌, map, sym}
 use Rattle.model.specs.Grammar.{has_section}
 use Rattle.model.proofs.Tests.{passes_map}
-use Rattle.pddl_tree_parts.specs.Token.{section_view}
+use Rattle.pddl_tree.specs.Token.{section_view}
 use Rattle.explain_words.proofs.state.has_all.Goals as goal
 
 pub returns : goal.returns

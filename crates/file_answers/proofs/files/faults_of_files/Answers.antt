@@ -1,7 +1,7 @@
 use Rattle.std.proofs.Common.{arith, subst, sym}
 use Rattle.std.proofs.lemmas.Result.{IfOk-weaker}
 use Rattle.std.specs.Prelude.{All, IfSome}
-use Rattle.pddl_tree_parts.specs.Tree.{domain_of, problem_of}
+use Rattle.pddl_tree.specs.Tree.{domain_of, problem_of}
 use Rattle.model.specs.Trees.{Domain, Problem}
 use Rattle.typing.specs.Task.{refusal_of}
 use Rattle.typing.specs.Listed.{AreListed, faults_listed}

@@ -1,6 +1,6 @@
 use Rattle.std.proofs.Common.{IfSome, sym, subst}
 use Rattle.std.proofs.lemmas.Result.{err_from_is_err_and}
-use Rattle.pddl_tree_parts.specs.Tree.{domain_of, problem_of}
+use Rattle.pddl_tree.specs.Tree.{domain_of, problem_of}
 use Rattle.model.specs.Files.{IsTaskFault}
 use Rattle.file_answers.proofs.FilesRead.{pair_reported}
 use Rattle.file_answers.proofs.files.task_of_files.Goals as goal

@@ -1,6 +1,6 @@
 use Rattle.std.proofs.Common.{IfSome, sym, subst}
 use Rattle.tokens.specs.Reported.{reported_by}
-use Rattle.pddl_tree_parts.specs.Tree.{domain_of}
+use Rattle.pddl_tree.specs.Tree.{domain_of}
 use Rattle.model.specs.Files.{IsTaskFault}
 use Rattle.file_answers.specs.Complete.{AreUnread}
 use Rattle.file_answers.proofs.FilesRead.{domain_reported, no_domain, no_problem, problem_reported}

@@ -1,7 +1,7 @@
-use Rattle.pddl_tree_parts.proofs.Names.{[], ◌∙◌, sym, ap, arith, from, action_of, made, bind, phrase, Reads}
+use Rattle.pddl_tree.proofs.Names.{[], ◌∙◌, sym, ap, arith, from, action_of, made, bind, phrase, Reads}
 use Rattle.model.specs.Grammar.{bare_action}
 use Rattle.pddl_tree.specs.Sections.{the_action, parts_on}
-use Rattle.pddl_tree_parts.proofs.Looks.{passed, reported_along}
+use Rattle.pddl_tree.proofs.Looks.{passed, reported_along}
 use Rattle.pddl_tree.proofs.action.action.Goals as goal
 
 pub returns : goal.returns

@@ -1,4 +1,4 @@
-use Rattle.pddl_tree_parts.proofs.Names.{◌∙◌, ◌≡◌, ◌+◌, ◌++◌, ◌∷◌, [], map, sym, ap, subst, false, has_part, part_view, action_of, phrase, ReadsInto, MayContinue}
+use Rattle.pddl_tree.proofs.Names.{◌∙◌, ◌≡◌, ◌+◌, ◌++◌, ◌∷◌, [], map, sym, ap, subst, false, has_part, part_view, action_of, phrase, ReadsInto, MayContinue}
 use Rattle.std.proofs.lemmas.List.{map-append}
 use Rattle.pddl_tree.specs.Sections.{parts_on, part_into}
 use Rattle.pddl_tree.proofs.Parts.{part_answers}

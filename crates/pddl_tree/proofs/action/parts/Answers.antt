@@ -1,4 +1,4 @@
-use Rattle.pddl_tree_parts.proofs.Names.{◌∙◌, map, sym, ap, arith, rules, from, part_view, has_part, action_of, phrase, stops}
+use Rattle.pddl_tree.proofs.Names.{◌∙◌, map, sym, ap, arith, rules, from, part_view, has_part, action_of, phrase, stops}
 use Rattle.model.specs.GrammarWords.{parameters}
 use Rattle.pddl_tree.specs.Sections.{parts_on}
 use Rattle.pddl_tree.proofs.Parts.{parts_end, parameters_missing}

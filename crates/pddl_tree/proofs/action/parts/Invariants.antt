@@ -1,4 +1,4 @@
-use Rattle.pddl_tree_parts.proofs.Names.{◌≡◌, ◌-◌, ◌≤◌, [], length, map, from, part_view, action_of, phrase}
+use Rattle.pddl_tree.proofs.Names.{◌≡◌, ◌-◌, ◌≤◌, [], length, map, from, part_view, action_of, phrase}
 use Rattle.pddl_tree.specs.Sections.{parts_on}
 use Rattle.pddl_tree.proofs.action.parts.Given as goal
 

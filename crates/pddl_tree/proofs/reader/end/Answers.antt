@@ -1,4 +1,4 @@
-use Rattle.pddl_tree_parts.proofs.Names.{◌∙◌, sym, from, stops}
+use Rattle.pddl_tree.proofs.Names.{◌∙◌, sym, from, stops}
 use Rattle.pddl_tree.proofs.Reported.{trailing}
 use Rattle.pddl_tree.proofs.reader.end.Goals as goal
 

@@ -1,4 +1,4 @@
-use Rattle.pddl_tree_parts.proofs.Names.{[], ◌∙◌, sym, ap, subst, rules, At, tree_from, name_of, reported, from, bind, phrase, Reports, file_of}
+use Rattle.pddl_tree.proofs.Names.{[], ◌∙◌, sym, ap, subst, rules, At, tree_from, name_of, reported, from, bind, phrase, Reports, file_of}
 use Rattle.pddl_tree.specs.Head.{at_end}
 use Rattle.pddl_tree.specs.Sections.{contents_of, sections_on}
 use Rattle.pddl_tree.proofs.Reported.{file_read, refused_by, taken_by, head_stops, outcome, file_ends, all_stop}

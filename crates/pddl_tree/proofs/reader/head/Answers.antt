@@ -1,4 +1,4 @@
-use Rattle.pddl_tree_parts.proofs.Names.{name_of, file_of}
+use Rattle.pddl_tree.proofs.Names.{name_of, file_of}
 use Rattle.pddl_tree.proofs.Heads.{opened, has_head}
 use Rattle.pddl_tree.proofs.reader.head.Goals as goal
 

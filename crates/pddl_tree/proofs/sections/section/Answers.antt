@@ -1,4 +1,4 @@
-use Rattle.pddl_tree_parts.proofs.Names.{◌≡◌, false, ◌∙◌, map, sym, ap, subst, has_section, section_view, file_of, phrase, MayContinue}
+use Rattle.pddl_tree.proofs.Names.{◌≡◌, false, ◌∙◌, map, sym, ap, subst, has_section, section_view, file_of, phrase, MayContinue}
 use Rattle.pddl_tree.specs.Sections.{contents_of, sections_on}
 use Rattle.pddl_tree.proofs.Files.{section_answers}
 use Rattle.pddl_tree.proofs.sections.section.Goals as goal

@@ -1,4 +1,4 @@
-use Rattle.pddl_tree_parts.proofs.Names.{◌≡◌, Some, false, ◌∙◌, map, sym, subst, sections_of, keyword, of_section, from, first, section_view, file_of, part, stops, closes_first, Stops}
+use Rattle.pddl_tree.proofs.Names.{◌≡◌, Some, false, ◌∙◌, map, sym, subst, sections_of, keyword, of_section, from, first, section_view, file_of, part, stops, closes_first, Stops}
 use Rattle.model.specs.Grammar as grammar
 use Rattle.faults.proofs.Results.{passed_on, if_ok, if_err}
 use Rattle.pddl_tree.specs.Sections.{IsNotNew}

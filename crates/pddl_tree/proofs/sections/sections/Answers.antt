@@ -1,4 +1,4 @@
-use Rattle.pddl_tree_parts.proofs.Names.{◌∙◌, map, sym, ap, arith, rules, required_of, from, section_view, file_of, phrase, stops}
+use Rattle.pddl_tree.proofs.Names.{◌∙◌, map, sym, ap, arith, rules, required_of, from, section_view, file_of, phrase, stops}
 use Rattle.model.specs.Grammar as grammar
 use Rattle.pddl_tree.specs.Sections.{contents_of, sections_on}
 use Rattle.pddl_tree.proofs.Files.{sections_end, sections_missing, all_seen}

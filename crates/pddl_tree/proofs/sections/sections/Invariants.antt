@@ -1,4 +1,4 @@
-use Rattle.pddl_tree_parts.proofs.Names.{◌≡◌, ◌-◌, ◌≤◌, [], length, map, from, section_view, file_of, phrase}
+use Rattle.pddl_tree.proofs.Names.{◌≡◌, ◌-◌, ◌≤◌, [], length, map, from, section_view, file_of, phrase}
 use Rattle.pddl_tree.specs.Sections.{contents_of, sections_on}
 use Rattle.pddl_tree.proofs.sections.sections.Given as goal
 

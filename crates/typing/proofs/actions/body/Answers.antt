@@ -6,7 +6,7 @@ use Rattle.task.specs.TaskParts as parts
 use Rattle.typing_names.specs.Resolver.{file_in, known_to}
 use Rattle.typing_names.specs.Scope.{known_of, known_over}
 use Rattle.typing_names.specs.Walk.{found, found_by}
-use Rattle.pddl_tree_parts.specs.Tree as read
+use Rattle.pddl_tree.specs.Tree as read
 use Rattle.model.specs.Trees as tree
 use Rattle.model.specs.Trees.{TaskFile}
 use Rattle.model.specs.Typing as typing

@@ -1,10 +1,10 @@
 use Rattle.typing_names.specs.Walk.{found_by}
 use Rattle.typing_names.specs.Scope.{keys_in}
-use Rattle.pddl_tree_parts.specs.Tree as read
+use Rattle.pddl_tree.specs.Tree as read
 use Rattle.model.specs.Trees.{domain_file}
 use Rattle.model.specs.Typing as typing
 use Rattle.typing_names.proofs.Found as finding
-use Rattle.pddl_tree_parts.specs.declared.tree.Action.{Action}
+use Rattle.pddl_tree.specs.declared.tree.Action.{Action}
 use Rattle.typing.proofs.actions.declare_actions.Goals as goal
 
 pub loop-action-preserved : goal.loop-action-preserved

@@ -4,7 +4,7 @@ use Rattle.typing_names.specs.Walk.{found, found_by}
 use Rattle.task.specs.TaskParts as parts
 use Rattle.typing_names.specs.QuantifiedNames.{quantified_names}
 use Rattle.typing_names.specs.Scope.{keys_in, known_outside}
-use Rattle.pddl_tree_parts.specs.Tree as read
+use Rattle.pddl_tree.specs.Tree as read
 use Rattle.model.specs.Trees.{domain_file}
 use Rattle.model.specs.Typing as typing
 use Rattle.typing.proofs.actions.table.Given as goal

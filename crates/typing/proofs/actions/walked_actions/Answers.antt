@@ -7,8 +7,8 @@ use Rattle.typing_names.specs.Scope.{known_outside}
 use Rattle.typing_names.specs.Walk.{found, found_by}
 use Rattle.typing_names.proofs.Empty as empty
 use Rattle.typing_names.proofs.Found as finding
-use Rattle.pddl_tree_parts.specs.Tree as read
-use Rattle.pddl_tree_parts.specs.declared.tree.Action.{Action}
+use Rattle.pddl_tree.specs.Tree as read
+use Rattle.pddl_tree.specs.declared.tree.Action.{Action}
 use Rattle.model.specs.Trees as tree
 use Rattle.model.specs.Trees.{domain_file}
 use Rattle.model.specs.Typing as typing

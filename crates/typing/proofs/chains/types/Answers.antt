@@ -1,7 +1,7 @@
 use Rattle.std.proofs.Common.{◌≡◌, ◌≤◌, ◌∙◌, [], ◌∷◌, ◌++◌, codes, map, length, ap, sym, subst, arith}
 use Rattle.std.proofs.lemmas.List.{length-map}
 use Rattle.std.proofs.lemmas.Result.{IfErr-weaker, IfOk-weaker}
-use Rattle.pddl_tree_parts.specs.Tree.{domain_of, problem_of, group_of}
+use Rattle.pddl_tree.specs.Tree.{domain_of, problem_of, group_of}
 use Rattle.typing.specs.Chains.{cycles}
 use Rattle.typing.specs.Task.{ReportsAll}
 use Rattle.typing_names.specs.TypedLists.{declared_of}

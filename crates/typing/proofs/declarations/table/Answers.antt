@@ -2,12 +2,12 @@ use Rattle.std.proofs.Common.{map}
 use Rattle.typing_names.specs.Walk.{found_by}
 use Rattle.task.specs.TaskParts as parts
 use Rattle.typing_names.specs.Scope.{keys_in}
-use Rattle.pddl_tree_parts.specs.Tree as read
+use Rattle.pddl_tree.specs.Tree as read
 use Rattle.model.specs.Trees.{domain_file}
 use Rattle.model.specs.Typing as typing
 use Rattle.typing.proofs.TableSteps as tables
 use Rattle.typing_names.proofs.Found as finding
-use Rattle.pddl_tree_parts.specs.declared.tree.Predicate.{Predicate}
+use Rattle.pddl_tree.specs.declared.tree.Predicate.{Predicate}
 use Rattle.typing.proofs.declarations.table.Goals as goal
 
 pub loop-declaration-preserved : goal.loop-declaration-preserved

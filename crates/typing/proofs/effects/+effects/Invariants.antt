@@ -3,7 +3,7 @@ use Rattle.std.specs.List.{flat_map}
 use Rattle.task.specs.TaskParts as parts
 use Rattle.typing_names.specs.Resolver.{file_in, known_to}
 use Rattle.typing_names.specs.Walk.{found, found_by}
-use Rattle.pddl_tree_parts.specs.Tree as read
+use Rattle.pddl_tree.specs.Tree as read
 use Rattle.model.specs.Typing as typing
 use Rattle.typing.proofs.effects.+effects.Given as goal
 

@@ -4,8 +4,8 @@ use Rattle.std.proofs.lemmas.List.Folds.{flat_map-map}
 use Rattle.typing.specs.Task.{file_of}
 use Rattle.typing_names.specs.Scope.{known_of}
 use Rattle.typing_names.specs.Walk.{found, found_by}
-use Rattle.pddl_tree_parts.specs.declared.tree.Increase.{Increase}
-use Rattle.pddl_tree_parts.specs.Tree as read
+use Rattle.pddl_tree.specs.declared.tree.Increase.{Increase}
+use Rattle.pddl_tree.specs.Tree as read
 use Rattle.model.specs.Trees as tree
 use Rattle.model.specs.Typing as typing
 use Rattle.typing_names.proofs.Found.{found_after}

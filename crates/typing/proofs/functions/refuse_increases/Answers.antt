@@ -2,9 +2,9 @@ use Rattle.std.proofs.Common.{◌≡◌, ◌∙◌, ◌∷◌, ◌+◌, ap, sym,
 use Rattle.std.proofs.lemmas.List.{drop_more, drop_all}
 use Rattle.typing.specs.Task.{file_of}
 use Rattle.typing_names.specs.Walk.{found, found_by}
-use Rattle.pddl_tree_parts.specs.declared.tree.TaskFile.{TaskFile}
-use Rattle.pddl_tree_parts.specs.declared.tree.Increase.{Increase}
-use Rattle.pddl_tree_parts.specs.Tree as read
+use Rattle.pddl_tree.specs.declared.tree.TaskFile.{TaskFile}
+use Rattle.pddl_tree.specs.declared.tree.Increase.{Increase}
+use Rattle.pddl_tree.specs.Tree as read
 use Rattle.model.specs.Typing as typing
 use Rattle.typing.proofs.functions.refuse_increases.Goals as goal
 

@@ -1,5 +1,5 @@
 use Rattle.std.proofs.Common.{◌≡◌, ◌∙◌, ◌++◌, ap}
-use Rattle.pddl_tree_parts.specs.Tree.{domain_of, file_of, problem_of}
+use Rattle.pddl_tree.specs.Tree.{domain_of, file_of, problem_of}
 use Rattle.typing_names.specs.declared.scope.Globals.{Globals}
 use Rattle.typing_names.specs.Resolver.{file_in, known_to}
 use Rattle.typing_names.specs.Scope.{known_outside, known_over}

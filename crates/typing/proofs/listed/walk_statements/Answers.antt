@@ -1,5 +1,5 @@
 use Rattle.std.proofs.Common.{◌∙◌, ap}
-use Rattle.pddl_tree_parts.specs.Tree.{file_of, problem_of}
+use Rattle.pddl_tree.specs.Tree.{file_of, problem_of}
 use Rattle.typing_names.specs.Resolver.{file_in, known_to}
 use Rattle.typing_names.specs.Walk.{found, found_by}
 use Rattle.typing_names.proofs.Found.{found_after}

@@ -1,7 +1,7 @@
 use Rattle.std.proofs.Common.{◌≡◌, ◌∙◌, List, ◌++◌, map, length, take, ap, subst, arith, IfErr, IfOk}
 use Rattle.std.proofs.Math.Seq.{take-append_seam}
 use Rattle.std.proofs.lemmas.List.{length-append, length-map}
-use Rattle.pddl_tree_parts.specs.Tree as read
+use Rattle.pddl_tree.specs.Tree as read
 use Rattle.typing_names.specs.Scope.{keys_in}
 use Rattle.typing.specs.DeclaredObjects.{AreMade}
 use Rattle.typing.specs.Task.{ReportsAll}

@@ -1,5 +1,5 @@
 use Rattle.std.proofs.Common.{◌≡◌, ◌∙◌, [], map, ap, sym, subst}
-use Rattle.pddl_tree_parts.specs.Tree.{domain_of, problem_of, name_of}
+use Rattle.pddl_tree.specs.Tree.{domain_of, problem_of, name_of}
 use Rattle.task.specs.TaskParts.{task_of_parts}
 use Rattle.task.specs.declared.parts.TaskParts.{TaskParts}
 use Rattle.typing.specs.Task.{ReportsFaults, ReportsAll}

@@ -1,4 +1,4 @@
-use Rattle.pddl_tree_parts.specs.Tree.{domain_of, problem_of}
+use Rattle.pddl_tree.specs.Tree.{domain_of, problem_of}
 use Rattle.model.specs.Typing.{faults_of}
 use Rattle.typing.proofs.resolver.of_trees.Goals as goal
 

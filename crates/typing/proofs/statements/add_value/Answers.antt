@@ -3,7 +3,7 @@ use Rattle.std.specs.Option.{option_map}
 use Rattle.typing_names.specs.Scope.{known_of}
 use Rattle.typing_names.specs.Walk.{found, found_by}
 use Rattle.task.specs.TaskParts as parts
-use Rattle.pddl_tree_parts.specs.Tree as read
+use Rattle.pddl_tree.specs.Tree as read
 use Rattle.model.specs.Trees as tree
 use Rattle.model.specs.Typing as typing
 use Rattle.typing_names.proofs.Found.{found_after}

@@ -4,7 +4,7 @@ use Rattle.typing.specs.Task.{file_of}
 use Rattle.typing_names.specs.Scope.{known_over, narrow_atoms_in}
 use Rattle.typing_names.specs.Walk.{found, found_by, nothing}
 use Rattle.task.specs.TaskParts as parts
-use Rattle.pddl_tree_parts.specs.Tree as read
+use Rattle.pddl_tree.specs.Tree as read
 use Rattle.model.specs.Typing as typing
 use Rattle.typing_names.proofs.Reports as printing
 use Rattle.typing.proofs.statements.init.Goals as goal

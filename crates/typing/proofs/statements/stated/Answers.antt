@@ -5,9 +5,9 @@ use Rattle.typing.specs.Task.{file_of}
 use Rattle.typing_names.specs.Walk.{found, found_by}
 use Rattle.task.specs.TaskParts as parts
 use Rattle.typing_names.specs.Scope.{known_of, narrow_atoms_in}
-use Rattle.pddl_tree_parts.specs.Tree as read
+use Rattle.pddl_tree.specs.Tree as read
 use Rattle.model.specs.Typing as typing
-use Rattle.pddl_tree_parts.specs.declared.tree.Fact.{Fact}
+use Rattle.pddl_tree.specs.declared.tree.Fact.{Fact}
 use Rattle.typing_names.proofs.Found as finding
 use Rattle.typing.proofs.Values.{values_step, facts_step, values_end, facts_end}
 use Rattle.typing.proofs.statements.stated.Goals as goal

@@ -3,7 +3,7 @@ use Rattle.std.proofs.lemmas.List.{length-map}
 use Rattle.std.specs.Map.{keys_of}
 use Rattle.typing_names.specs.Scope.{keys_in}
 use Rattle.typing_names.specs.Walk.{found, found_by, nothing}
-use Rattle.pddl_tree_parts.specs.Tree as read
+use Rattle.pddl_tree.specs.Tree as read
 use Rattle.model.specs.Typing as typing
 use Rattle.typing_names.proofs.Found as finding
 use Rattle.typing_names.proofs.Reports as printing

@@ -3,7 +3,7 @@ use Rattle.std.proofs.lemmas.List.{drop_more, drop_all}
 use Rattle.typing_names.specs.Walk.{found, found_by}
 use Rattle.typing_names.specs.TypedLists.{declared_of, placed_of}
 use Rattle.typing_names.specs.Scope.{keys_in}
-use Rattle.pddl_tree_parts.specs.Tree as read
+use Rattle.pddl_tree.specs.Tree as read
 use Rattle.model.specs.Typing as typing
 use Rattle.typing_names.specs.declared.typed_lists.Declared.{Declared}
 use Rattle.typing_names.proofs.Found as finding

@@ -2,7 +2,7 @@ use Rattle.std.proofs.Common.{◌≡◌, [], ◌∷◌, map, fold, drop, codes}
 use Rattle.typing_names.specs.Walk.{found, found_by}
 use Rattle.typing_names.specs.TypedLists.{placed_of}
 use Rattle.typing_names.specs.Scope.{keys_in}
-use Rattle.pddl_tree_parts.specs.Tree as read
+use Rattle.pddl_tree.specs.Tree as read
 use Rattle.model.specs.Typing as typing
 use Rattle.typing_names.proofs.domain.type_names.Given as goal
 

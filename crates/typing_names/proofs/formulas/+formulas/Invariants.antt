@@ -5,7 +5,7 @@ use Rattle.task.specs.Names.{names_in}
 use Rattle.typing_names.specs.QuantifiedNames.{quantified_names}
 use Rattle.typing_names.specs.Resolver.{file_in, known_to}
 use Rattle.typing_names.specs.Walk.{found, found_by}
-use Rattle.pddl_tree_parts.specs.Tree as read
+use Rattle.pddl_tree.specs.Tree as read
 use Rattle.model.specs.Typing as typing
 use Rattle.typing_names.proofs.formulas.+formulas.Given as goal
 

@@ -4,7 +4,7 @@ use Rattle.typing_names.proofs.Quantified.{names_declared}
 use Rattle.typing_names.specs.TypedLists.{declared_of}
 use Rattle.typing_names.specs.Resolver.{file_in, known_to}
 use Rattle.typing_names.specs.Walk.{found, found_by}
-use Rattle.pddl_tree_parts.specs.Tree as read
+use Rattle.pddl_tree.specs.Tree as read
 use Rattle.model.specs.Typing as typing
 use Rattle.typing_names.proofs.formulas.enter.Goals.{After-as_slice-declared}
 use Rattle.typing_names.proofs.formulas.enter.Goals as goal

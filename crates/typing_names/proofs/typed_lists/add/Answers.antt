@@ -1,9 +1,9 @@
 use Rattle.std.proofs.Common.{◌∙◌, ◌++◌, ap, sym, map}
 use Rattle.std.proofs.lemmas.List.Folds.{flat_map-map}
 use Rattle.typing_names.specs.TypedLists.{declared_by, declared_of}
-use Rattle.pddl_tree_parts.specs.Tree.{file_of}
-use Rattle.pddl_tree_parts.specs.Tree as read
-use Rattle.pddl_tree_parts.specs.declared.tree.Group.{Group}
+use Rattle.pddl_tree.specs.Tree.{file_of}
+use Rattle.pddl_tree.specs.Tree as read
+use Rattle.pddl_tree.specs.declared.tree.Group.{Group}
 use Rattle.model.specs.Trees as tree
 use Rattle.model.specs.Typing as typing
 use Rattle.typing_names.proofs.Found.{grown_more, grown_all, map-map}

@@ -1,8 +1,8 @@
 use Rattle.std.proofs.Common.{◌≡◌, ◌++◌, map, drop}
 use Rattle.std.specs.List.{flat_map}
 use Rattle.typing_names.specs.TypedLists.{declared_of}
-use Rattle.pddl_tree_parts.specs.Tree.{file_of}
-use Rattle.pddl_tree_parts.specs.Tree as read
+use Rattle.pddl_tree.specs.Tree.{file_of}
+use Rattle.pddl_tree.specs.Tree as read
 use Rattle.model.specs.Typing as typing
 use Rattle.typing_names.proofs.typed_lists.add.Given as goal
 

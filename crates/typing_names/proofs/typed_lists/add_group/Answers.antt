@@ -1,8 +1,8 @@
 use Rattle.std.proofs.Common.{◌∙◌, ap, map}
 use Rattle.std.proofs.lemmas.List.{map_push}
 use Rattle.typing_names.specs.TypedLists.{declared_by, declared_of}
-use Rattle.pddl_tree_parts.specs.Tree.{file_of}
-use Rattle.pddl_tree_parts.specs.Tree as read
+use Rattle.pddl_tree.specs.Tree.{file_of}
+use Rattle.pddl_tree.specs.Tree as read
 use Rattle.typing_names.proofs.Found.{mapped_more, mapped_all}
 use Rattle.typing_names.proofs.typed_lists.add_group.Goals as goal
 

@@ -1,7 +1,7 @@
 use Rattle.std.proofs.Common.{◌≡◌, ◌++◌, map, drop}
 use Rattle.typing_names.specs.TypedLists.{declared_by, declared_of}
-use Rattle.pddl_tree_parts.specs.Tree.{file_of}
-use Rattle.pddl_tree_parts.specs.Tree as read
+use Rattle.pddl_tree.specs.Tree.{file_of}
+use Rattle.pddl_tree.specs.Tree as read
 use Rattle.typing_names.proofs.typed_lists.add_group.Given as goal
 
 abbrev pub invariant-loop-name : goal.invariant-loop-name

@@ -1,5 +1,5 @@
 use Rattle.std.proofs.Common.{◌≡◌, ◌∙◌, [], ap, refl, sym, if◌then◌else◌}
-use Rattle.pddl_tree_parts.specs.Tree.{file_of, name_of}
+use Rattle.pddl_tree.specs.Tree.{file_of, name_of}
 use Rattle.model.specs.Typing.{refused_word, is_known}
 use Rattle.typing_names.specs.Scope.{keys_in}
 use Rattle.typing_names.specs.Walk.{found, found_by, found_in}

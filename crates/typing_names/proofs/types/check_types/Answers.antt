@@ -1,9 +1,9 @@
 use Rattle.std.proofs.Common.{refl}
 use Rattle.typing_names.specs.Scope.{keys_in}
-use Rattle.pddl_tree_parts.specs.Tree.{file_of}
+use Rattle.pddl_tree.specs.Tree.{file_of}
 use Rattle.typing_names.specs.Walk.{found_by}
-use Rattle.pddl_tree_parts.specs.Tree as read
-use Rattle.pddl_tree_parts.specs.declared.terms.Name.{Name}
+use Rattle.pddl_tree.specs.Tree as read
+use Rattle.pddl_tree.specs.declared.terms.Name.{Name}
 use Rattle.model.specs.Typing as typing
 use Rattle.typing_names.proofs.Found.{found_at, found_walked}
 use Rattle.typing_names.proofs.types.check_types.Goals as goal

@@ -1,7 +1,7 @@
 use Rattle.std.proofs.Common.{◌≡◌, ◌-◌, ◌∙◌, None, Some, ap, length, subst, sym}
 use Rattle.std.specs.Prelude.{slice_get}
 use Rattle.std.specs.Option.{option_copied}
-use Rattle.pddl_tree_parts.specs.Token.{seen}
+use Rattle.pddl_tree.specs.Token.{seen}
 use Rattle.explain_words.specs.States.{Steps, state_of}
 use Rattle.explain_words.proofs.Automaton.{bottom, of_level, top}
 use Rattle.explain_words.proofs.state.State.next.Goals as goal

@@ -1,6 +1,6 @@
 use Rattle.std.specs.Prelude.{Some, None}
 use Rattle.std.proofs.Common.{subst}
-use Rattle.pddl_tree_parts.specs.Token.{seen}
+use Rattle.pddl_tree.specs.Token.{seen}
 use Rattle.explain_words.specs.Frames.{Follow, expected_by}
 use Rattle.explain_words.specs.States.{state_of}
 use Rattle.explain_words.proofs.Automaton.{of_frame}

@@ -1,6 +1,6 @@
 use Rattle.std.proofs.Common.{◌≡◌, ◌∙◌, [], ◌∷◌, ap, sym, subst}
 use Rattle.std.specs.List.{flat_map}
-use Rattle.pddl_tree_parts.specs.Tree.{problem_of}
+use Rattle.pddl_tree.specs.Tree.{problem_of}
 use Rattle.typing.specs.Task.{file_of, ReportsAll}
 use Rattle.typing_names.specs.Scope.{known_outside, known_over, narrow_atoms_in}
 use Rattle.typing.specs.Declarations.{stated_faults_in}

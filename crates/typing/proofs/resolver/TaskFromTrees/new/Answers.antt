@@ -2,7 +2,7 @@ use Rattle.std.proofs.Common.{IfErr}
 use Rattle.std.specs.Prelude.{Result, Ok, Err}
 use Rattle.std.proofs.lemmas.Result.{on_ok_weaker}
 use Rattle.faults.specs.declared.refused.Refused.TheVariants.{At, NoMemory}
-use Rattle.pddl_tree_parts.specs.Tree.{domain_of, problem_of}
+use Rattle.pddl_tree.specs.Tree.{domain_of, problem_of}
 use Rattle.typing.specs.Task.{TaskFault, ReportsFault, ReportsLeastFault, refusal_of}
 use Rattle.model.specs.Trees.{Domain, Problem}
 use Rattle.model.proofs.TypingFaultsReported.{well_typed, reported}

@@ -1,13 +1,13 @@
 use Rattle.std.proofs.Common.{◌∙◌, map, take, ap, arith}
 use Rattle.std.proofs.lemmas.List.{take_all}
-use Rattle.pddl_tree_parts.specs.Tree.{file_of}
+use Rattle.pddl_tree.specs.Tree.{file_of}
 use Rattle.typing_names.specs.Scope.{arguments_at, known_of}
 use Rattle.typing_names.specs.Walk.{found_by}
 use Rattle.task.specs.TaskParts as parts
-use Rattle.pddl_tree_parts.specs.Tree as read
+use Rattle.pddl_tree.specs.Tree as read
 use Rattle.model.specs.Trees as tree
 use Rattle.model.specs.Typing as typing
-use Rattle.pddl_tree_parts.specs.declared.terms.Name.{Name}
+use Rattle.pddl_tree.specs.declared.terms.Name.{Name}
 use Rattle.typing_names.proofs.Lists as lists
 use Rattle.typing_names.proofs.Arguments.{argument_step, argument_end}
 use Rattle.typing_names.proofs.scope.Scope.ground_objects.Goals.{then-len-lt-MAX_ARGUMENTS, else-len-lt-MAX_ARGUMENTS}

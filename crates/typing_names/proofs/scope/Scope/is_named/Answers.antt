@@ -2,7 +2,7 @@ use Rattle.std.proofs.Common.{◌≡◌, ◌∙◌, ◌≤◌, true≢false, nat
 use Rattle.std.specs.List.{list_all}
 use Rattle.std.proofs.lemmas.Bool.{leb-true, le-leb, ltb-true}
 use Rattle.std.proofs.lemmas.List.{length-map}
-use Rattle.pddl_tree_parts.specs.Tree.{name_of, ground_atom_of}
+use Rattle.pddl_tree.specs.Tree.{name_of, ground_atom_of}
 use Rattle.typing_names.specs.Scope.{known_of}
 use Rattle.task.specs.TaskParts.{object_of, predicate_of}
 use Rattle.model.specs.Task as task

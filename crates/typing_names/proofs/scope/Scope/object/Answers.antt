@@ -2,8 +2,8 @@ use Rattle.std.proofs.Common.{◌≡◌, ◌∙◌, Bool, [], if◌then◌else�
 use Rattle.std.specs.Map.{keys_of}
 use Rattle.std.proofs.lemmas.List.{length-map}
 use Rattle.model.specs.Typing.{refused_word, number_in, is_known, names_of_objects}
-use Rattle.pddl_tree_parts.specs.Tree.{name_of}
-use Rattle.pddl_tree_parts.specs.Tree.{file_of}
+use Rattle.pddl_tree.specs.Tree.{name_of}
+use Rattle.pddl_tree.specs.Tree.{file_of}
 use Rattle.task.specs.TaskParts.{object_entry_of}
 use Rattle.typing_names.specs.Walk.{found, found_by, found_in}
 use Rattle.typing_names.proofs.Tables.{reported_of_entry, number_in-le, keys_in-named}

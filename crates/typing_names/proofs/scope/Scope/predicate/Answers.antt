@@ -1,10 +1,10 @@
 use Rattle.std.proofs.Common.{◌≡◌, ◌==◌, ◌∙◌, map, length, ap, sym, refl, [], if◌then◌else◌, List, Bool, arith}
-use Rattle.pddl_tree_parts.specs.Tree.{name_of}
+use Rattle.pddl_tree.specs.Tree.{name_of}
 use Rattle.model.specs.Typing.{refused_word, number_in, names_of_predicates, predicate_faults, TypingFault}
 use Rattle.std.proofs.lemmas.List.{length-map}
 use Rattle.task.specs.TaskParts.{predicate_of, union_of}
 use Rattle.typing_names.specs.Scope.{known_of}
-use Rattle.pddl_tree_parts.specs.Tree.{file_of}
+use Rattle.pddl_tree.specs.Tree.{file_of}
 use Rattle.typing_names.specs.Walk.{found, found_by, found_in}
 use Rattle.typing_names.proofs.Tables.{found_predicate, missing_predicate, other_count, same_count}
 use Rattle.typing_names.proofs.scope.Scope.predicate.Goals.{In-Some}

@@ -1,12 +1,12 @@
 use Rattle.std.proofs.Common.{◌∙◌, [], ◌∷◌, ◌++◌, map, ap, sym}
 use Rattle.std.proofs.lemmas.List.{map_push, map_more}
-use Rattle.pddl_tree_parts.specs.Tree.{file_of}
+use Rattle.pddl_tree.specs.Tree.{file_of}
 use Rattle.typing_names.specs.Scope.{arguments_at, known_of}
 use Rattle.typing_names.specs.Walk.{found_by}
 use Rattle.task.specs.TaskParts as parts
-use Rattle.pddl_tree_parts.specs.Tree as read
+use Rattle.pddl_tree.specs.Tree as read
 use Rattle.model.specs.Typing as typing
-use Rattle.pddl_tree_parts.specs.declared.terms.Term.{Term}
+use Rattle.pddl_tree.specs.declared.terms.Term.{Term}
 use Rattle.typing_names.proofs.Arguments.{argument_step, argument_end}
 use Rattle.typing_names.proofs.scope.Scope.terms.Goals as goal
 

@@ -1,7 +1,7 @@
 use Rattle.std.proofs.Common.{◌≡◌, ◌∙◌, Bool, [], if◌then◌else◌, is_some, unwrap_or, map, ap, refl}
 use Rattle.model.specs.Typing.{refused_word, number_in, is_known, names_of_variables}
-use Rattle.pddl_tree_parts.specs.Tree.{name_of}
-use Rattle.pddl_tree_parts.specs.Tree.{file_of}
+use Rattle.pddl_tree.specs.Tree.{name_of}
+use Rattle.pddl_tree.specs.Tree.{file_of}
 use Rattle.typing_names.specs.Scope.{variable_entry_of}
 use Rattle.typing_names.specs.Walk.{found, found_by, found_in}
 use Rattle.typing_names.proofs.Tables.{reported_of_entry}

@@ -1,5 +1,5 @@
 use Rattle.std.proofs.Common.{◌∙◌, Some, None, refl}
-use Rattle.pddl_tree_parts.specs.Tree.{name_of}
+use Rattle.pddl_tree.specs.Tree.{name_of}
 use Rattle.typing_names.proofs.Tables.{reported_of_entry}
 use Rattle.typing_names.proofs.type_names.TypeTable.number.Goals as goal
 

@@ -2,9 +2,9 @@ use Rattle.std.proofs.Common.{◌∙◌, [], ◌∷◌, ◌++◌, map, ap, sym}
 use Rattle.std.proofs.lemmas.List.{map_push, map_more}
 use Rattle.task.specs.TaskParts as parts
 use Rattle.typing_names.specs.Scope.{keys_in}
-use Rattle.pddl_tree_parts.specs.Tree as read
+use Rattle.pddl_tree.specs.Tree as read
 use Rattle.model.specs.Typing as typing
-use Rattle.pddl_tree_parts.specs.declared.terms.Name.{Name}
+use Rattle.pddl_tree.specs.declared.terms.Name.{Name}
 use Rattle.typing_names.proofs.type_names.TypeTable.numbers.Goals as goal
 
 pub loop-name-preserved : goal.loop-name-preserved

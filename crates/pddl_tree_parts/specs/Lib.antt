@@ -1,9 +1,0 @@
-pub mod Terms
-pub mod Tree
-pub mod Token
-pub mod Refusal
-pub mod Reading
-pub mod Place
-pub mod Typed
-pub mod Costs
-pub mod Phrases
