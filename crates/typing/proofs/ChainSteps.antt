@@ -6,10 +6,10 @@ use Rattle.std.specs.Global.{Vec}
 use Rattle.indexmap.specs.IndexMap.{set_value_at}
 use Rattle.task.specs.declared.atoms.TypeId.{TypeId}
 use Rattle.task.specs.TaskParts.{type_entry_of, type_of}
-use Rattle.typing_names.specs.Scope.{keys_in}
+use Rattle.typing.specs.Scope.{keys_in}
 use Rattle.model.specs.Typing.{TypingFault, Declared, chain, comes_back, cycle_faults_from, refused_word, types_from, whole_chain}
-use Rattle.typing_names.specs.Walk.{Findings, found}
-use Rattle.typing_names.proofs.Found.{found-append}
+use Rattle.typing.specs.Walk.{Findings, found}
+use Rattle.typing.proofs.Found.{found-append}
 
 -- one more type, other than `object`
 pub one_type_more : (parents : List ℕ) (n i next after : ℕ) (so_far whole : List ℕ) → i < n → (next ≡ 0 → ⊥) → after ≡ slice_index parents next

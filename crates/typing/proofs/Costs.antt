@@ -11,8 +11,8 @@ use Rattle.model.specs.Task as task
 use Rattle.model.specs.Trees.{TaskFile, problem_file}
 use Rattle.model.specs.Trees as tree
 use Rattle.model.specs.Typing.{TypingFault, folded, is_same, is_known, names_of_predicates, predicate_in, refused, refused_word, total_cost, with_name}
-use Rattle.typing_names.specs.Walk.{Findings, found}
-use Rattle.typing_names.proofs.Found.{map-map}
+use Rattle.typing.specs.Walk.{Findings, found}
+use Rattle.typing.proofs.Found.{map-map}
 
 -- whether a name is among the declared ones, with one more, and after some more
 any_with : (q : task.Name) (before : List task.Name) (name : tree.Name) → list_any (is_same q) (with_name before name) ≡ (list_any (is_same q) before || is_same q (folded name))

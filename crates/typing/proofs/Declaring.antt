@@ -8,9 +8,9 @@ use Rattle.model.specs.Task as task
 use Rattle.model.specs.Trees as tree
 use Rattle.model.specs.Trees.{TaskFile}
 use Rattle.model.specs.Typing.{Declared, Placed, Variable, is_known, is_same, folded, with_name, with_variable, variable_in, variables_after, known_among, one_after, one_too_many, unions_in, names_of_variables, number_in, type_in, types_from, comes_back, cycle_faults_from, unknown_faults, types_faults, type_faults, words_of, refused, refused_word, repeated, repeated_after}
-use Rattle.typing_names.proofs.Empty.{nil_left, nil_right, not_refused, within}
-use Rattle.typing_names.proofs.Found.{map-map}
-use Rattle.typing_names.proofs.Lists.{list_any-position}
+use Rattle.typing.proofs.Empty.{nil_left, nil_right, not_refused, within}
+use Rattle.typing.proofs.Found.{map-map}
+use Rattle.typing.proofs.Lists.{list_any-position}
 
 -- ---- variables
 

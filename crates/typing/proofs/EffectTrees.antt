@@ -12,7 +12,7 @@ use Rattle.task.specs.TaskParts.{effect_of, effects_of}
 use Rattle.model.specs.Task as task
 use Rattle.model.specs.Trees.{TaskFile, effects}
 use Rattle.model.specs.Typing.{Known, effect_in, effects_in, effect_faults, effects_faults, each_of}
-use Rattle.typing_names.specs.Walk.{Findings, found}
+use Rattle.typing.specs.Walk.{Findings, found}
 
 abbrev pub joined_effects : List task.Effect → task.Effects
 joined_effects [] = task.no_effect

@@ -1,3 +1,14 @@
+pub mod Least
+pub mod Lists
+pub mod Tables
+pub mod Found
+pub mod Trees
+pub mod Quantified
+pub mod Reports
+pub mod Empty
+pub mod Declared
+pub mod Arguments
+pub mod Named
 pub mod TableSteps
 pub mod EffectTrees
 pub mod Declaring

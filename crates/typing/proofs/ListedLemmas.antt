@@ -3,7 +3,7 @@ use Rattle.std.proofs.Common.{◌≡◌, ◌∙◌, List, [], ◌∷◌, ◌++�
 use Rattle.std.proofs.lemmas.List.{take-append-drop}
 use Rattle.std.proofs.lemmas.List.Elements.{All-contains_itself, Contains-append_cases, Contains-append_left}
 use Rattle.std.proofs.lemmas.List.Sorted.{All-permutation}
-use Rattle.typing_names.specs.Refusals.{TaskRefusal, refusal_of}
+use Rattle.typing.specs.Refusals.{TaskRefusal, refusal_of}
 use Rattle.typing.specs.Declarations.{declared_faults, type_faults_of}
 use Rattle.typing.specs.DeclaredObjects.{AreObjects, AreObjectsOf}
 use Rattle.typing.specs.Listed.{AreFaultsOf, AreListed, IsFaultOf, faults_listed, use_faults}

@@ -5,8 +5,8 @@ use Rattle.std.proofs.lemmas.List.{append_assoc, append-nil, drop_more, drop_all
 use Rattle.model.specs.Task as task
 use Rattle.model.specs.Trees as tree
 use Rattle.model.specs.Typing.{Placed, folded, is_known, with_name, repeated_after}
-use Rattle.typing_names.specs.Scope.{keys_in, IsAdded}
-use Rattle.typing_names.proofs.Found.{got_twice}
+use Rattle.typing.specs.Scope.{keys_in, IsAdded}
+use Rattle.typing.proofs.Found.{got_twice}
 
 -- a name that is not declared again: it is new, and so are those after it
 pub not_again : (before : List task.Name) (w : Placed) (rest : List Placed) → repeated_after before (w ∷ rest) ≡ []

@@ -14,10 +14,10 @@ use Rattle.typing.specs.declared.names.Names.{Names}
 use Rattle.typing.specs.Declarations.{declared_faults, known_in_names, stated_faults_in, type_faults_of, AreNamesOf}
 use Rattle.task.specs.TaskParts.{atom_of, formula_of, object_entry_of, predicate_of, schema_of, task_of_parts, type_entry_of, value_of}
 use Rattle.task.specs.declared.parts.TaskParts.{TaskParts}
-use Rattle.typing_names.specs.Scope.{narrow_atoms_in}
-use Rattle.typing_names.proofs.Empty.{nil_left, nil_right, not_refused, and_true}
+use Rattle.typing.specs.Scope.{narrow_atoms_in}
+use Rattle.typing.proofs.Empty.{nil_left, nil_right, not_refused, and_true}
 use Rattle.typing.proofs.ParentChains.{all_whole, descends_on_chain, type_at, among_Contains, Contains_among}
-use Rattle.typing_names.proofs.Declared.{names_are}
+use Rattle.typing.proofs.Declared.{names_are}
 use Rattle.typing.proofs.Declaring.{parents_low, none_comes_back}
 use Rattle.typing.proofs.WellTyped.{Fits, declared_count, arities_fit, schemas_fit, facts_fit, own_faults, formula_fits}
 

@@ -10,8 +10,8 @@ use Rattle.model.specs.Trees as tree
 use Rattle.model.specs.Trees.{TaskFile}
 use Rattle.model.specs.Typing.{Known, TypingFault, atom_in, differing, fact_faults, facts_faults, in_function, is_named, value_faults, values_after, values_in, with_value}
 use Rattle.model.proofs.TypingFaultsPhases.{values_after-append}
-use Rattle.typing_names.specs.Walk.{Findings, found}
-use Rattle.typing_names.proofs.Found.{found-append}
+use Rattle.typing.specs.Walk.{Findings, found}
+use Rattle.typing.proofs.Found.{found-append}
 
 -- ---- one more value
 

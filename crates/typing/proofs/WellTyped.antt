@@ -13,9 +13,9 @@ use Rattle.model.specs.Trees.{TaskFile, domain_file}
 use Rattle.model.specs.Typing.{Known, Placed, Variable, Declared, declared, folded, is_same, is_known, number_in, names_of_objects, names_of_predicates, names_of_variables, unions_in, union_in, repeated, one_after, refused, refused_word, words_of, unknown_faults, faults_against, predicate_faults, predicate_in_known, arguments_in, fits_in, term_faults, misfit_faults, terms_faults, atom_faults, formula_faults, formulas_faults, effect_literal_faults, effect_faults, effects_faults, increase_faults, amount_faults, ground_atom_faults, initial_cost_faults, fact_faults, value_faults, facts_faults, type_faults, argument_faults, schema_faults, term_in, lifted_atom_in, formula_in, formulas_in, effect_literal_in, effect_in, effects_in, atom_in, atoms_in, values_after, predicate_in, in_function, increase_in, known_in_action, schema_in, known_with, known_among, variable_faults, one_too_many, exists_each, forall_each, exists_over, forall_over, each_of}
 use Rattle.model.specs.Meaning.{is_below_in, is_of}
 use Rattle.model.specs.WellTyped.{is_term, is_some_term, is_lifted_atom, is_atom, is_formula, are_formulas, is_effect_literal, is_effect, are_effects, is_increase, is_schema}
-use Rattle.typing_names.proofs.Lists.{list_any-position}
+use Rattle.typing.proofs.Lists.{list_any-position}
 use Rattle.typing.proofs.Declaring.{variables_are, few_variables}
-use Rattle.typing_names.proofs.Empty.{nil_left, nil_right, within, and_true}
+use Rattle.typing.proofs.Empty.{nil_left, nil_right, within, and_true}
 
 -- ---- look-ups
 

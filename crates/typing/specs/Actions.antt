@@ -1,7 +1,7 @@
 -- The place at which the domain's actions are resolved.
 use Rattle.std.specs.Prelude.{◌≡◌, []}
-use Rattle.typing_names.specs.Resolver.{file_in}
-use Rattle.typing_names.specs.declared.resolver.Resolver.{Resolver}
+use Rattle.typing.specs.Resolver.{file_in}
+use Rattle.typing.specs.declared.resolver.Resolver.{Resolver}
 use Rattle.model.specs.Trees.{domain_file}
 
 -- the resolver is in the domain, with no variable in scope

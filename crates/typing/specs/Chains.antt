@@ -2,7 +2,7 @@
 use Rattle.std.specs.Prelude.{◌≡◌, ℕ, List, [], map}
 use Rattle.std.specs.Global.{Vec}
 use Rattle.task.specs.declared.atoms.TypeId.{TypeId}
-use Rattle.typing_names.specs.Scope.{keys_in}
+use Rattle.typing.specs.Scope.{keys_in}
 use Rattle.task.specs.TaskParts.{type_entry_of}
 use Rattle.model.specs.Task as task
 use Rattle.model.specs.Typing.{Declared, TypingFault, parents_in, types_from, cycle_faults_from}

@@ -6,10 +6,10 @@ use Rattle.task.specs.declared.atoms.TypeId.{TypeId}
 use Rattle.typing.specs.DeclaredObjects.{AreObjectsOf}
 use Rattle.typing.specs.declared.names.Names.{Names}
 use Rattle.typing.specs.declared.names.Start.{Start}
-use Rattle.typing_names.specs.declared.type_names.TypeTable.{TypeTable}
+use Rattle.typing.specs.declared.type_names.TypeTable.{TypeTable}
 use Rattle.task.specs.declared.schemas.Predicate.{Predicate}
-use Rattle.typing_names.specs.QuantifiedNames.{quantified_names}
-use Rattle.typing_names.specs.Scope.{keys_in, names_in, narrow_atoms_in}
+use Rattle.typing.specs.QuantifiedNames.{quantified_names}
+use Rattle.typing.specs.Scope.{keys_in, names_in, narrow_atoms_in}
 use Rattle.task.specs.TaskParts.{atom_of, formula_of, object_entry_of, predicate_of, type_entry_of, value_of}
 use Rattle.model.specs.Trees as tree
 use Rattle.model.specs.Trees.{TaskFile, problem_file}

@@ -1,4 +1,9 @@
-pub use Rattle.typing_names.specs.Refusals
+pub mod Refusals
+pub mod Walk
+pub mod TypedLists
+pub mod Scope
+pub mod QuantifiedNames
+pub mod Resolver
 pub mod Task
 pub mod Actions
 pub mod Chains

@@ -1,7 +1,7 @@
 -- The listed faults of a pair.
 use Rattle.std.specs.Prelude.{◌≡◌, List, [], ◌∷◌, ◌++◌, map, take, All}
 use Rattle.std.specs.List.Sorted.{IsPermutation}
-use Rattle.typing_names.specs.Refusals.{TaskRefusal, refusal_of}
+use Rattle.typing.specs.Refusals.{TaskRefusal, refusal_of}
 use Rattle.typing.specs.Declarations.{type_faults_of}
 use Rattle.model.specs.Trees.{Domain, Problem, problem_file}
 use Rattle.model.specs.Resolution.{Placed, TypingFault}

@@ -1,7 +1,7 @@
 -- The faults that are reported for a pair, in the model's terms.
 pub use Rattle.pddl_tree.specs.Tree.{file_of}
-pub use Rattle.typing_names.specs.QuantifiedNames.{variable_names}
-pub use Rattle.typing_names.specs.Refusals.{refusal_of, PairFault, TaskFault, ReportsAll}
+pub use Rattle.typing.specs.QuantifiedNames.{variable_names}
+pub use Rattle.typing.specs.Refusals.{refusal_of, PairFault, TaskFault, ReportsAll}
 use Rattle.faults.specs.declared.refused.Refused.TheVariants.{At, NoMemory}
 use Rattle.model.specs.Trees as tree
 use Rattle.model.specs.TypingFaults as typing_faults

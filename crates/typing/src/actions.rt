@@ -2,28 +2,30 @@
 ghost use Rattle.std.specs.Prelude.{◌≡◌, [], map, IfErr, IfOk, OnOk};
 ghost use Rattle.task.specs.TaskParts as parts;
 ghost use Rattle.typing.specs.Actions.{IsInDomain};
-ghost use Rattle.typing_names.specs.Resolver.{file_in, known_to};
-ghost use Rattle.typing_names.specs.QuantifiedNames.{quantified_names};
-ghost use Rattle.typing_names.specs.Scope.{known_outside, names_in};
+ghost use Rattle.typing.specs.Resolver.{file_in, known_to};
+ghost use Rattle.typing.specs.QuantifiedNames.{quantified_names};
+ghost use Rattle.typing.specs.Scope.{known_outside, names_in};
 ghost use Rattle.typing.specs.Task.{file_of, ReportsAll};
-ghost use Rattle.typing_names.specs.Walk.{Finds};
+ghost use Rattle.typing.specs.Walk.{Finds};
 ghost use Rattle.pddl_tree.specs.Tree as read;
 ghost use Rattle.model.specs.Trees.{domain_file};
 ghost use Rattle.model.specs.Typing as typing;
 ghost use Rattle.std.specs.List.{flat_map};
 
+use crate::domain::{declare, put};
 use crate::effects::effect;
+use crate::fault::PairFault;
+use crate::formulas::{condition, enter};
 use crate::functions::increase;
-use crate::{PairFault, TaskFile};
+use crate::resolver::Resolver;
+use crate::scope::Globals;
+use crate::typed_lists::Placed;
+use crate::walk::Walk;
 use faults::NoMemory;
 use indexmap::IndexMap;
-use pddl_tree::{Action, Domain};
+use pddl_tree::{Action, Domain, TaskFile};
 use std::alloc::Global;
 use task::{Schema, TypeUnion};
-use typing_names::domain::{declare, put};
-use typing_names::formulas::{condition, enter};
-use typing_names::typed_lists::Placed;
-use typing_names::{Globals, Resolver, Walk};
 
 /// The schema of an action with these parameters, given the variables in scope.
 fn body(

@@ -1,23 +1,25 @@
 //! The types of a domain and their chains of parents, up to `object`.
 ghost use Rattle.std.specs.Prelude.{◌≡◌, ◌≤◌, ◌<◌, ◌+◌, [], if◌then◌else◌, length, map, slice_index, IfErr, IfOk, OnOk};
 ghost use Rattle.task.specs.TaskParts as parts;
-ghost use Rattle.typing_names.specs.TypedLists.{declared_of};
-ghost use Rattle.typing_names.specs.Scope.{keys_in};
+ghost use Rattle.typing.specs.TypedLists.{declared_of};
+ghost use Rattle.typing.specs.Scope.{keys_in};
 ghost use Rattle.typing.specs.Task.{ReportsAll};
 ghost use Rattle.typing.specs.Chains.{AreTypes, cycles};
 ghost use Rattle.typing.specs.Declarations.{type_faults_of, AreTypesOf};
-ghost use Rattle.typing_names.specs.Walk.{Finds};
+ghost use Rattle.typing.specs.Walk.{Finds};
 ghost use Rattle.pddl_tree.specs.Tree as read;
 ghost use Rattle.model.specs.Typing as typing;
 
-use crate::{PairFault, TaskFile};
+use crate::domain;
+use crate::fault::PairFault;
+use crate::type_names::TypeTable;
+use crate::typed_lists::{Declared, collect};
+use crate::walk::Walk;
 use faults::{Code, NoMemory};
 use indexmap::IndexMap;
-use pddl_tree::{Domain, Problem};
+use pddl_tree::{Domain, Problem, TaskFile};
 use std::alloc::Global;
 use task::TypeId;
-use typing_names::typed_lists::{Declared, collect};
-use typing_names::{TypeTable, Walk, domain};
 
 /// The parent of a type; `object` if there is no such type.
 fn parent(parents: &[TypeId], id: TypeId) -> TypeId

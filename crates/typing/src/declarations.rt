@@ -1,24 +1,25 @@
 //! The domain's declarations of names with arguments: predicates and functions.
 ghost use Rattle.std.specs.Prelude.{◌≡◌, [], fold, map, IfErr, IfOk, OnOk};
 ghost use Rattle.task.specs.TaskParts as parts;
-ghost use Rattle.typing_names.specs.Scope.{keys_in};
+ghost use Rattle.typing.specs.Scope.{keys_in};
 ghost use Rattle.typing.specs.Task.{ReportsAll};
-ghost use Rattle.typing_names.specs.Walk.{Finds};
+ghost use Rattle.typing.specs.Walk.{Finds};
 ghost use Rattle.pddl_tree.specs.Tree as read;
 ghost use Rattle.model.specs.Trees.{domain_file};
 ghost use Rattle.model.specs.Typing as typing;
 ghost use Rattle.std.specs.List.{flat_map};
 
-use crate::{PairFault, TaskFile};
+use crate::domain::declare;
+use crate::fault::PairFault;
+use crate::type_names::TypeTable;
+use crate::typed_lists::{Placed, collect, limit};
+use crate::types::check_all;
+use crate::walk::Walk;
 use faults::NoMemory;
 use indexmap::IndexMap;
-use pddl_tree::{Domain, Predicate as Declaration};
+use pddl_tree::{Domain, Predicate as Declaration, TaskFile};
 use std::alloc::Global;
 use task::{MAX_ARGUMENTS, Predicate, TypeUnion};
-use typing_names::domain::declare;
-use typing_names::typed_lists::{Placed, collect, limit};
-use typing_names::types::check_all;
-use typing_names::{TypeTable, Walk};
 
 /// The types of each argument of a declaration.
 fn arguments(

@@ -2,21 +2,23 @@
 ghost use Rattle.std.specs.Prelude.{◌≡◌, ◌++◌, map, IfOk, OnOk};
 ghost use Rattle.std.specs.List.{flat_map};
 ghost use Rattle.task.specs.TaskParts as parts;
-ghost use Rattle.typing_names.specs.Resolver.{file_in, known_to};
-ghost use Rattle.typing_names.specs.Scope.{known_of};
+ghost use Rattle.typing.specs.Resolver.{file_in, known_to};
+ghost use Rattle.typing.specs.Scope.{known_of};
 ghost use Rattle.typing.specs.Task.{file_of};
-ghost use Rattle.typing_names.specs.Walk.{Finds};
+ghost use Rattle.typing.specs.Walk.{Finds};
 ghost use Rattle.pddl_tree.specs.Tree as read;
 ghost use Rattle.model.specs.Task as task;
 ghost use Rattle.model.specs.Typing as typing;
 
+use crate::formulas::{enter, formula};
+use crate::resolver::Resolver;
+use crate::scope::Scope;
+use crate::walk::Walk;
 use faults::NoMemory;
 use pddl_tree as tree;
 use pddl_tree::Group;
 use std::alloc::Global;
 use task::{Effect, EffectLiteral, TypeUnion};
-use typing_names::formulas::{enter, formula};
-use typing_names::{Resolver, Scope, Walk};
 
 /// A literal of an effect.
 fn literal(

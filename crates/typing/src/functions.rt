@@ -3,23 +3,25 @@ ghost use Rattle.std.specs.Prelude.{◌≡◌, [], ◌++◌, drop, if◌then◌e
 ghost use Rattle.std.specs.List.{flat_map, list_any};
 ghost use Rattle.std.specs.Option.{option_map_or};
 ghost use Rattle.task.specs.TaskParts as parts;
-ghost use Rattle.typing_names.specs.Scope.{keys_in, known_of, known_outside};
+ghost use Rattle.typing.specs.Scope.{keys_in, known_of, known_outside};
 ghost use Rattle.typing.specs.Task.{file_of, ReportsAll};
-ghost use Rattle.typing_names.specs.Walk.{Finds};
+ghost use Rattle.typing.specs.Walk.{Finds};
 ghost use Rattle.pddl_tree.specs.Tree as read;
 ghost use Rattle.model.specs.Trees.{problem_file};
 ghost use Rattle.model.specs.Task as task;
 ghost use Rattle.model.specs.Typing as typing;
 
 use crate::declarations::declared;
-use crate::{PairFault, TaskFile};
+use crate::fault::PairFault;
+use crate::scope::{Globals, Scope, declares_cost};
+use crate::type_names::TypeTable;
+use crate::walk::Walk;
 use faults::{Code, NoMemory};
 use indexmap::IndexMap;
 use pddl_tree as tree;
-use pddl_tree::{Action, Amount, Domain, Name, Problem};
+use pddl_tree::{Action, Amount, Domain, Name, Problem, TaskFile};
 use std::alloc::Global;
 use task::{Increase, Predicate};
-use typing_names::{Globals, Scope, TypeTable, Walk, declares_cost};
 
 /// Refuses the metric if the total cost is not declared among these functions.
 fn check_metric(

@@ -1,22 +1,23 @@
 //! All faults of a pair that are found before one of them hides what comes after it.
 ghost use Rattle.std.specs.Prelude.{◌≡◌, ◌++◌, List, [], IfErr, IfOk, OnOk};
 ghost use Rattle.pddl_tree.specs.Tree.{domain_of, problem_of};
-ghost use Rattle.typing_names.specs.Resolver.{file_in, known_to};
-ghost use Rattle.typing_names.specs.Walk.{Finds};
+ghost use Rattle.typing.specs.Resolver.{file_in, known_to};
+ghost use Rattle.typing.specs.Walk.{Finds};
 ghost use Rattle.typing.specs.Task.{ReportsAll};
 ghost use Rattle.typing.specs.Declarations.{AreNamesOf};
 ghost use Rattle.typing.specs.Listed.{AreFaultsOf, AreListed, faults_listed, use_faults};
 ghost use Rattle.model.specs.Typing.{TypingFault, formula_faults, init_faults};
 
 use crate::actions::walked_actions;
+use crate::fault::{PairFault, TaskRefusal};
+use crate::formulas::formula;
 use crate::names::Names;
+use crate::resolver::Resolver;
 use crate::statements::walked_init;
-use crate::{PairFault, TaskFile, TaskRefusal};
+use crate::walk::Walk;
 use faults::{NoMemory, Refused};
-use pddl_tree::{Domain, Problem};
+use pddl_tree::{Domain, Problem, TaskFile};
 use std::alloc::Global;
-use typing_names::formulas::formula;
-use typing_names::{Resolver, Walk};
 
 /// The faults of a pair: those of the first phase of typing that has any, up to [`MAX_LISTED`](crate::MAX_LISTED), and none if the
 /// pair is well-typed. The actions, the initial state and the goal are a single phase here, since they do not depend on each

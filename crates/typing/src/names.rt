@@ -1,13 +1,15 @@
 //! The names that a domain and a problem declare, and the problem's initial state and goal.
 ghost use Rattle.std.specs.Prelude.{◌≡◌, ◌≤◌, [], length, IfErr, IfOk};
 
-use crate::{PairFault, TaskFile, chains, declarations, functions, objects, statements};
+use crate::fault::PairFault;
+use crate::formulas::FormulaWithNames;
+use crate::scope::Globals;
+use crate::type_names::TypeTable;
+use crate::{chains, declarations, functions, objects, statements};
 use indexmap::IndexMap;
-use pddl_tree::{Domain, Problem};
+use pddl_tree::{Domain, Problem, TaskFile};
 use std::alloc::Global;
 use task::{Atom, Predicate, TypeId};
-use typing_names::formulas::FormulaWithNames;
-use typing_names::{Globals, TypeTable};
 
 /// The constants, and all objects with the constants first.
 #[derive(Drop)]
@@ -32,7 +34,7 @@ pub(crate) struct Names {
 impl Names {
     ghost use Rattle.typing.specs.Task.{ReportsAll};
     ghost use Rattle.typing.specs.Declarations.{declared_faults, known_in_names, AreNamesOf};
-    ghost use Rattle.typing_names.specs.Scope.{known_outside};
+    ghost use Rattle.typing.specs.Scope.{known_outside};
     ghost use Rattle.pddl_tree.specs.Tree.{domain_of, file_of, problem_of};
     ghost use Rattle.model.specs.Trees.{domain_file, problem_file};
 
@@ -96,7 +98,7 @@ pub(crate) struct Start {
 
 impl Start {
     ghost use Rattle.typing.specs.Task.{file_of, ReportsAll};
-    ghost use Rattle.typing_names.specs.Scope.{known_outside};
+    ghost use Rattle.typing.specs.Scope.{known_outside};
     ghost use Rattle.typing.specs.Declarations.{stated_faults_in, Starts};
     ghost use Rattle.pddl_tree.specs.Tree.{problem_of};
 

@@ -1,26 +1,27 @@
 //! The domain's constants and the problem's objects, and their types.
 ghost use Rattle.std.specs.Prelude.{◌≡◌, ◌≤◌, [], ◌++◌, length, map, take, IfErr, IfOk, OnOk};
 ghost use Rattle.task.specs.TaskParts as parts;
-ghost use Rattle.typing_names.specs.TypedLists.{declared_of};
+ghost use Rattle.typing.specs.TypedLists.{declared_of};
 ghost use Rattle.typing.specs.DeclaredObjects.{AreMade, AreObjects};
-ghost use Rattle.typing_names.specs.Scope.{keys_in};
+ghost use Rattle.typing.specs.Scope.{keys_in};
 ghost use Rattle.typing.specs.Task.{ReportsAll};
-ghost use Rattle.typing_names.specs.Walk.{Finds};
+ghost use Rattle.typing.specs.Walk.{Finds};
 ghost use Rattle.pddl_tree.specs.Tree as read;
 ghost use Rattle.model.specs.Trees.{domain_file, problem_file};
 ghost use Rattle.model.specs.Typing as typing;
 
+use crate::domain::declare;
+use crate::fault::PairFault;
 use crate::names::DeclaredObjects;
-use crate::{PairFault, TaskFile};
+use crate::type_names::TypeTable;
+use crate::typed_lists::{Declared, add, limit};
+use crate::types::check_all;
+use crate::walk::Walk;
 use faults::NoMemory;
 use indexmap::IndexMap;
-use pddl_tree::{Domain, Group, Problem};
+use pddl_tree::{Domain, Group, Problem, TaskFile};
 use std::alloc::Global;
 use task::{MAX_OBJECTS, TypeId};
-use typing_names::domain::declare;
-use typing_names::typed_lists::{Declared, add, limit};
-use typing_names::types::check_all;
-use typing_names::{TypeTable, Walk};
 
 /// The declared objects.
 fn table(

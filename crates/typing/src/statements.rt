@@ -2,22 +2,24 @@
 ghost use Rattle.std.specs.Prelude.{◌≡◌, [], ◌∷◌, ◌++◌, drop, if◌then◌else◌, map, IfErr, IfOk, OnOk};
 ghost use Rattle.task.specs.TaskParts as parts;
 ghost use Rattle.typing.specs.Task.{file_of, ReportsAll};
-ghost use Rattle.typing_names.specs.QuantifiedNames.{quantified_names};
-ghost use Rattle.typing_names.specs.Scope.{known_of, known_outside, known_over, names_in, narrow_atoms_in};
-ghost use Rattle.typing_names.specs.Walk.{found, found_by, Finds};
+ghost use Rattle.typing.specs.QuantifiedNames.{quantified_names};
+ghost use Rattle.typing.specs.Scope.{known_of, known_outside, known_over, names_in, narrow_atoms_in};
+ghost use Rattle.typing.specs.Walk.{found, found_by, Finds};
 ghost use Rattle.pddl_tree.specs.Tree as read;
 ghost use Rattle.model.specs.Trees as tree;
 ghost use Rattle.model.specs.Typing as typing;
 ghost use Rattle.std.specs.List.{flat_map};
 
-use crate::{PairFault, TaskFile};
+use crate::fault::PairFault;
+use crate::formulas::{FormulaWithNames, condition};
+use crate::resolver::Resolver;
+use crate::scope::{Globals, Scope};
+use crate::walk::Walk;
 use faults::{Code, NoMemory};
 use indexmap::IndexMap;
-use pddl_tree::{Fact, InitialCost, InitialValue, Name, Problem};
+use pddl_tree::{Fact, InitialCost, InitialValue, Name, Problem, TaskFile};
 use std::alloc::Global;
 use task::{Atom, TypeUnion};
-use typing_names::formulas::{FormulaWithNames, condition};
-use typing_names::{Globals, Resolver, Scope, Walk};
 
 /// The statements of `:init`: the atoms that are true, and the values of functions.
 #[derive(Drop)]

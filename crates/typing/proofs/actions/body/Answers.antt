@@ -3,14 +3,14 @@ use Rattle.std.specs.List.{flat_map}
 use Rattle.std.proofs.lemmas.List.{append_assoc}
 use Rattle.typing.specs.Task.{file_of}
 use Rattle.task.specs.TaskParts as parts
-use Rattle.typing_names.specs.Resolver.{file_in, known_to}
-use Rattle.typing_names.specs.Scope.{known_of, known_over}
-use Rattle.typing_names.specs.Walk.{found, found_by}
+use Rattle.typing.specs.Resolver.{file_in, known_to}
+use Rattle.typing.specs.Scope.{known_of, known_over}
+use Rattle.typing.specs.Walk.{found, found_by}
 use Rattle.pddl_tree.specs.Tree as read
 use Rattle.model.specs.Trees as tree
 use Rattle.model.specs.Trees.{TaskFile}
 use Rattle.model.specs.Typing as typing
-use Rattle.typing_names.proofs.Found.{found_after}
+use Rattle.typing.proofs.Found.{found_after}
 use Rattle.typing.proofs.actions.body.Goals.{In_ok-precondition, After-with-scope}
 use Rattle.typing.proofs.actions.body.Goals as goal
 

@@ -1,9 +1,9 @@
-use Rattle.typing_names.specs.Walk.{found_by}
-use Rattle.typing_names.specs.Scope.{keys_in}
+use Rattle.typing.specs.Walk.{found_by}
+use Rattle.typing.specs.Scope.{keys_in}
 use Rattle.pddl_tree.specs.Tree as read
 use Rattle.model.specs.Trees.{domain_file}
 use Rattle.model.specs.Typing as typing
-use Rattle.typing_names.proofs.Found as finding
+use Rattle.typing.proofs.Found as finding
 use Rattle.pddl_tree.specs.declared.tree.Action.{Action}
 use Rattle.typing.proofs.actions.declare_actions.Goals as goal
 

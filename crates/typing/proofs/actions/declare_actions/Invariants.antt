@@ -1,6 +1,6 @@
 use Rattle.std.proofs.Common.{◌≡◌, [], map, drop}
-use Rattle.typing_names.specs.Walk.{found, found_by}
-use Rattle.typing_names.specs.Scope.{keys_in}
+use Rattle.typing.specs.Walk.{found, found_by}
+use Rattle.typing.specs.Scope.{keys_in}
 use Rattle.pddl_tree.specs.Tree as read
 use Rattle.model.specs.Trees.{domain_file}
 use Rattle.model.specs.Typing as typing

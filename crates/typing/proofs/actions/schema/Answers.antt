@@ -1,12 +1,12 @@
 use Rattle.std.proofs.Common.{◌≡◌, ◌∙◌, [], map, ap}
 use Rattle.typing.specs.Task.{file_of}
-use Rattle.typing_names.specs.Resolver.{file_in, known_to}
-use Rattle.typing_names.specs.Scope.{known_outside, known_over, variable_entry_of}
-use Rattle.typing_names.specs.Walk.{found, found_by}
+use Rattle.typing.specs.Resolver.{file_in, known_to}
+use Rattle.typing.specs.Scope.{known_outside, known_over, variable_entry_of}
+use Rattle.typing.specs.Walk.{found, found_by}
 use Rattle.pddl_tree.specs.Tree as read
 use Rattle.model.specs.Trees.{domain_file}
 use Rattle.model.specs.Typing as typing
-use Rattle.typing_names.proofs.Found.{found_after}
+use Rattle.typing.proofs.Found.{found_after}
 use Rattle.typing.proofs.actions.schema.Goals.{In_ok-parameters}
 use Rattle.typing.proofs.actions.schema.Goals as goal
 

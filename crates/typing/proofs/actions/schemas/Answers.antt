@@ -2,11 +2,11 @@ use Rattle.std.proofs.Common.{◌≡◌, ◌∙◌, map, ap}
 use Rattle.std.proofs.lemmas.Result.{IfOk-weaker}
 use Rattle.task.specs.TaskParts as parts
 use Rattle.pddl_tree.specs.Tree.{file_of}
-use Rattle.typing_names.specs.declared.scope.Globals.{Globals}
-use Rattle.typing_names.specs.QuantifiedNames.{quantified_names}
-use Rattle.typing_names.specs.Scope.{known_outside}
-use Rattle.typing_names.specs.Walk.{found, found_by, nothing}
-use Rattle.typing_names.proofs.Reports as printing
+use Rattle.typing.specs.declared.scope.Globals.{Globals}
+use Rattle.typing.specs.QuantifiedNames.{quantified_names}
+use Rattle.typing.specs.Scope.{known_outside}
+use Rattle.typing.specs.Walk.{found, found_by, nothing}
+use Rattle.typing.proofs.Reports as printing
 use Rattle.pddl_tree.specs.Tree as read
 use Rattle.model.specs.Trees as tree
 use Rattle.model.specs.Typing as typing

@@ -1,15 +1,15 @@
 use Rattle.std.proofs.Common.{◌∙◌, map, ap, Bor}
-use Rattle.typing_names.specs.Walk.{found, found_by}
+use Rattle.typing.specs.Walk.{found, found_by}
 use Rattle.task.specs.TaskParts as parts
 use Rattle.pddl_tree.specs.Tree.{file_of}
-use Rattle.typing_names.specs.declared.scope.Globals.{Globals}
-use Rattle.typing_names.specs.QuantifiedNames.{quantified_names}
-use Rattle.typing_names.specs.Scope.{known_outside}
+use Rattle.typing.specs.declared.scope.Globals.{Globals}
+use Rattle.typing.specs.QuantifiedNames.{quantified_names}
+use Rattle.typing.specs.Scope.{known_outside}
 use Rattle.pddl_tree.specs.Tree as read
 use Rattle.model.specs.Trees.{domain_file}
 use Rattle.model.specs.Typing as typing
 use Rattle.typing.proofs.TableSteps as tables
-use Rattle.typing_names.proofs.Found as finding
+use Rattle.typing.proofs.Found as finding
 use Rattle.pddl_tree.specs.declared.tree.Action.{Action}
 use Rattle.typing.proofs.actions.table.Goals as goal
 

@@ -1,9 +1,9 @@
 use Rattle.std.proofs.Common.{◌≡◌, [], ◌++◌, map, drop}
 use Rattle.std.specs.List.{flat_map}
-use Rattle.typing_names.specs.Walk.{found, found_by}
+use Rattle.typing.specs.Walk.{found, found_by}
 use Rattle.task.specs.TaskParts as parts
-use Rattle.typing_names.specs.QuantifiedNames.{quantified_names}
-use Rattle.typing_names.specs.Scope.{keys_in, known_outside}
+use Rattle.typing.specs.QuantifiedNames.{quantified_names}
+use Rattle.typing.specs.Scope.{keys_in, known_outside}
 use Rattle.pddl_tree.specs.Tree as read
 use Rattle.model.specs.Trees.{domain_file}
 use Rattle.model.specs.Typing as typing

@@ -2,11 +2,11 @@ use Rattle.std.proofs.Common.{◌≡◌, ◌∙◌, List, [], ◌++◌, map, ap,
 use Rattle.std.specs.List.{flat_map}
 use Rattle.std.proofs.lemmas.List.Folds.{flat_map-map}
 use Rattle.std.proofs.lemmas.Result.{IfOk-weaker, on_ok_weaker}
-use Rattle.typing_names.specs.QuantifiedNames.{quantified_names}
-use Rattle.typing_names.specs.Scope.{known_outside}
-use Rattle.typing_names.specs.Walk.{found, found_by}
-use Rattle.typing_names.proofs.Empty as empty
-use Rattle.typing_names.proofs.Found as finding
+use Rattle.typing.specs.QuantifiedNames.{quantified_names}
+use Rattle.typing.specs.Scope.{known_outside}
+use Rattle.typing.specs.Walk.{found, found_by}
+use Rattle.typing.proofs.Empty as empty
+use Rattle.typing.proofs.Found as finding
 use Rattle.pddl_tree.specs.Tree as read
 use Rattle.pddl_tree.specs.declared.tree.Action.{Action}
 use Rattle.model.specs.Trees as tree

@@ -1,7 +1,7 @@
 use Rattle.std.proofs.Common.{map}
 use Rattle.task.specs.TaskParts as parts
-use Rattle.typing_names.specs.TypedLists.{declared_of}
-use Rattle.typing_names.specs.Walk.{found_by}
+use Rattle.typing.specs.TypedLists.{declared_of}
+use Rattle.typing.specs.Walk.{found_by}
 use Rattle.typing.proofs.ChainSteps.{cycle_step, cycle_end}
 use Rattle.typing.proofs.chains.check_cycles.Goals as goal
 

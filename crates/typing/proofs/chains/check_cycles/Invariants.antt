@@ -1,7 +1,7 @@
 use Rattle.std.proofs.Common.{◌≡◌, ◌+◌, map, drop}
-use Rattle.typing_names.specs.Walk.{found, found_by}
+use Rattle.typing.specs.Walk.{found, found_by}
 use Rattle.task.specs.TaskParts as parts
-use Rattle.typing_names.specs.TypedLists.{declared_of}
+use Rattle.typing.specs.TypedLists.{declared_of}
 use Rattle.model.specs.Typing as typing
 use Rattle.typing.proofs.chains.check_cycles.Given as goal
 

@@ -1,6 +1,6 @@
 use Rattle.std.proofs.Common.{◌∙◌, nat_eq, map, ap}
 use Rattle.std.specs.List.{list_any}
-use Rattle.typing_names.proofs.Lists.{any_same}
+use Rattle.typing.proofs.Lists.{any_same}
 use Rattle.task.specs.TaskParts.{type_of}
 use Rattle.model.specs.Typing.{whole_chain}
 use Rattle.typing.proofs.chains.comes_back.Goals as goal

@@ -3,7 +3,7 @@ use Rattle.std.proofs.lemmas.List.{length-map, take_all}
 use Rattle.indexmap.specs.IndexMap.{set_value_at}
 use Rattle.indexmap.proofs.CallerLemmas.{index_map_len-with_value_at, keys-with_value_at}
 use Rattle.task.specs.TaskParts as parts
-use Rattle.typing_names.specs.Scope.{keys_in, names_in}
+use Rattle.typing.specs.Scope.{keys_in, names_in}
 use Rattle.model.specs.Typing as typing
 use Rattle.typing.proofs.ChainSteps.{one_filled, length_keys}
 use Rattle.typing.proofs.Declaring.{length-types}

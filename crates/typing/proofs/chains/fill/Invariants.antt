@@ -1,6 +1,6 @@
 use Rattle.std.proofs.Common.{◌≡◌, length, map, take}
 use Rattle.task.specs.TaskParts as parts
-use Rattle.typing_names.specs.Scope.{keys_in}
+use Rattle.typing.specs.Scope.{keys_in}
 use Rattle.model.specs.Typing as typing
 use Rattle.typing.proofs.chains.fill.Given as goal
 

@@ -1,12 +1,12 @@
 use Rattle.std.proofs.Common.{◌≡◌, ◌∙◌, map, ap}
 use Rattle.std.proofs.lemmas.Result.{IfOk-weaker}
 use Rattle.task.specs.TaskParts as parts
-use Rattle.typing_names.specs.TypedLists.{declared_of}
-use Rattle.typing_names.specs.Scope.{keys_in}
-use Rattle.typing_names.specs.Walk.{found, found_by, nothing}
+use Rattle.typing.specs.TypedLists.{declared_of}
+use Rattle.typing.specs.Scope.{keys_in}
+use Rattle.typing.specs.Walk.{found, found_by, nothing}
 use Rattle.model.specs.Typing as typing
 use Rattle.typing.specs.Chains.{AreTypes, cycles}
-use Rattle.typing_names.proofs.Reports as printing
+use Rattle.typing.proofs.Reports as printing
 use Rattle.typing.proofs.chains.filled.Goals as goal
 
 pub fill-requires : goal.fill-requires

@@ -4,14 +4,14 @@ use Rattle.std.proofs.lemmas.Result.{IfErr-weaker, IfOk-weaker}
 use Rattle.pddl_tree.specs.Tree.{domain_of, problem_of, group_of}
 use Rattle.typing.specs.Chains.{cycles}
 use Rattle.typing.specs.Task.{ReportsAll}
-use Rattle.typing_names.specs.TypedLists.{declared_of}
+use Rattle.typing.specs.TypedLists.{declared_of}
 use Rattle.typing.specs.Declarations.{type_faults_of, AreTypesOf}
 use Rattle.model.specs.Trees.{domain_file}
 use Rattle.model.specs.Trees as tree
 use Rattle.model.specs.Typing as typing
-use Rattle.typing_names.proofs.Empty as empty
+use Rattle.typing.proofs.Empty as empty
 use Rattle.model.specs.Typing.{first_filled}
-use Rattle.typing_names.proofs.Reports.{reports_here, reports_later}
+use Rattle.typing.proofs.Reports.{reports_here, reports_later}
 use Rattle.faults.proofs.Results.{passed_on}
 use Rattle.typing.proofs.chains.types.Goals.{In_ok-names}
 use Rattle.typing.proofs.chains.types.Goals as goal

@@ -1,6 +1,6 @@
 use Rattle.std.proofs.Common.{◌≡◌, ◌∙◌, map, ap}
-use Rattle.typing_names.specs.Scope.{keys_in}
-use Rattle.typing_names.specs.TypedLists.{declared_of}
+use Rattle.typing.specs.Scope.{keys_in}
+use Rattle.typing.specs.TypedLists.{declared_of}
 use Rattle.task.specs.TaskParts as parts
 use Rattle.pddl_tree.specs.Tree as read
 use Rattle.model.specs.Trees.{domain_file}

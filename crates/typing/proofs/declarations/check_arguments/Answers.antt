@@ -1,11 +1,11 @@
 use Rattle.std.proofs.Common.{◌∙◌, ◌++◌, List, ap, map}
-use Rattle.typing_names.specs.TypedLists.{declared_of}
-use Rattle.typing_names.specs.Walk.{found, found_by}
-use Rattle.typing_names.specs.Scope.{keys_in}
+use Rattle.typing.specs.TypedLists.{declared_of}
+use Rattle.typing.specs.Walk.{found, found_by}
+use Rattle.typing.specs.Scope.{keys_in}
 use Rattle.pddl_tree.specs.Tree as read
 use Rattle.model.specs.Trees.{domain_file}
 use Rattle.model.specs.Typing as typing
-use Rattle.typing_names.proofs.Found.{found_after}
+use Rattle.typing.proofs.Found.{found_after}
 use Rattle.typing.proofs.declarations.check_arguments.Goals as goal
 
 pub returns : goal.returns

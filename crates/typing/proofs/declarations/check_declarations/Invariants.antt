@@ -1,7 +1,7 @@
 use Rattle.std.proofs.Common.{◌≡◌, drop}
 use Rattle.std.specs.List.{flat_map}
-use Rattle.typing_names.specs.Walk.{found, found_by}
-use Rattle.typing_names.specs.Scope.{keys_in}
+use Rattle.typing.specs.Walk.{found, found_by}
+use Rattle.typing.specs.Scope.{keys_in}
 use Rattle.pddl_tree.specs.Tree as read
 use Rattle.model.specs.Typing as typing
 use Rattle.typing.proofs.declarations.check_declarations.Given as goal

@@ -1,14 +1,14 @@
 use Rattle.std.proofs.Common.{◌≡◌, ◌∙◌, List, [], ◌++◌, map, fold, refl, ap, sym}
 use Rattle.std.specs.List.{flat_map}
-use Rattle.typing_names.specs.Walk.{found, found_by}
-use Rattle.typing_names.specs.Scope.{keys_in}
+use Rattle.typing.specs.Walk.{found, found_by}
+use Rattle.typing.specs.Scope.{keys_in}
 use Rattle.pddl_tree.specs.Tree as read
 use Rattle.model.specs.Trees.{domain_file}
 use Rattle.model.specs.Typing as typing
 use Rattle.task.specs.TaskParts as parts
-use Rattle.typing_names.proofs.Found as finding
-use Rattle.typing_names.proofs.Tables.{keys_in-named}
-use Rattle.typing_names.proofs.Empty as empty
+use Rattle.typing.proofs.Found as finding
+use Rattle.typing.proofs.Tables.{keys_in-named}
+use Rattle.typing.proofs.Empty as empty
 use Rattle.pddl_tree.specs.declared.tree.Predicate.{Predicate}
 use Rattle.model.specs.Task as task
 use Rattle.model.specs.Trees as tree

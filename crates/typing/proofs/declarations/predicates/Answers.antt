@@ -1,10 +1,10 @@
 use Rattle.std.proofs.Common.{◌≡◌, ◌∙◌, [], map, ap}
-use Rattle.typing_names.specs.Walk.{found, found_by, nothing}
+use Rattle.typing.specs.Walk.{found, found_by, nothing}
 use Rattle.task.specs.TaskParts as parts
-use Rattle.typing_names.specs.Scope.{keys_in}
+use Rattle.typing.specs.Scope.{keys_in}
 use Rattle.pddl_tree.specs.Tree as read
 use Rattle.model.specs.Typing as typing
-use Rattle.typing_names.proofs.Reports as printing
+use Rattle.typing.proofs.Reports as printing
 use Rattle.typing.proofs.declarations.predicates.Goals as goal
 
 pub returns : goal.returns

@@ -1,12 +1,12 @@
 use Rattle.std.proofs.Common.{map}
-use Rattle.typing_names.specs.Walk.{found_by}
+use Rattle.typing.specs.Walk.{found_by}
 use Rattle.task.specs.TaskParts as parts
-use Rattle.typing_names.specs.Scope.{keys_in}
+use Rattle.typing.specs.Scope.{keys_in}
 use Rattle.pddl_tree.specs.Tree as read
 use Rattle.model.specs.Trees.{domain_file}
 use Rattle.model.specs.Typing as typing
 use Rattle.typing.proofs.TableSteps as tables
-use Rattle.typing_names.proofs.Found as finding
+use Rattle.typing.proofs.Found as finding
 use Rattle.pddl_tree.specs.declared.tree.Predicate.{Predicate}
 use Rattle.typing.proofs.declarations.table.Goals as goal
 

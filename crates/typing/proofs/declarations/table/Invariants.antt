@@ -1,7 +1,7 @@
 use Rattle.std.proofs.Common.{◌≡◌, [], ◌++◌, map, fold, drop}
-use Rattle.typing_names.specs.Walk.{found, found_by}
+use Rattle.typing.specs.Walk.{found, found_by}
 use Rattle.task.specs.TaskParts as parts
-use Rattle.typing_names.specs.Scope.{keys_in}
+use Rattle.typing.specs.Scope.{keys_in}
 use Rattle.pddl_tree.specs.Tree as read
 use Rattle.model.specs.Trees.{domain_file}
 use Rattle.model.specs.Typing as typing

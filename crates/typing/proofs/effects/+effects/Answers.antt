@@ -1,5 +1,5 @@
-use Rattle.typing_names.specs.Resolver.{file_in, known_to}
-use Rattle.typing_names.specs.Walk.{found_by}
+use Rattle.typing.specs.Resolver.{file_in, known_to}
+use Rattle.typing.specs.Walk.{found_by}
 use Rattle.typing.proofs.EffectTrees.{both_by_parts, both_faults_by_parts}
 use Rattle.typing.proofs.effects.+effects.Goals as goal
 

@@ -1,8 +1,8 @@
 use Rattle.std.proofs.Common.{◌≡◌, map, take, drop}
 use Rattle.std.specs.List.{flat_map}
 use Rattle.task.specs.TaskParts as parts
-use Rattle.typing_names.specs.Resolver.{file_in, known_to}
-use Rattle.typing_names.specs.Walk.{found, found_by}
+use Rattle.typing.specs.Resolver.{file_in, known_to}
+use Rattle.typing.specs.Walk.{found, found_by}
 use Rattle.pddl_tree.specs.Tree as read
 use Rattle.model.specs.Typing as typing
 use Rattle.typing.proofs.effects.+effects.Given as goal

@@ -2,13 +2,13 @@ use Rattle.std.proofs.Common.{◌≡◌, ◌∙◌, map, ap, sym}
 use Rattle.std.specs.List.{flat_map}
 use Rattle.std.proofs.lemmas.List.Folds.{flat_map-map}
 use Rattle.typing.specs.Task.{file_of}
-use Rattle.typing_names.specs.Resolver.{file_in, known_to}
-use Rattle.typing_names.specs.Scope.{known_of, known_over}
-use Rattle.typing_names.specs.Walk.{found, found_by}
+use Rattle.typing.specs.Resolver.{file_in, known_to}
+use Rattle.typing.specs.Scope.{known_of, known_over}
+use Rattle.typing.specs.Walk.{found, found_by}
 use Rattle.pddl_tree.specs.Tree as read
 use Rattle.model.specs.Task as task
 use Rattle.model.specs.Typing as typing
-use Rattle.typing_names.proofs.Found.{found_after, map-map}
+use Rattle.typing.proofs.Found.{found_after, map-map}
 use Rattle.typing.proofs.effects.conditional.Goals.{After-with-scope}
 use Rattle.typing.proofs.effects.conditional.Goals as goal
 

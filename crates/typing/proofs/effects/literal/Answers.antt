@@ -1,5 +1,5 @@
 use Rattle.std.proofs.Common.{◌≡◌, ap, sym, subst}
-use Rattle.typing_names.specs.Scope.{known_of}
+use Rattle.typing.specs.Scope.{known_of}
 use Rattle.task.specs.TaskParts as parts
 use Rattle.pddl_tree.specs.Tree as read
 use Rattle.model.specs.Task as task

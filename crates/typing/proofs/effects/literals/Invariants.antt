@@ -1,9 +1,9 @@
 use Rattle.std.proofs.Common.{◌≡◌, map, take, drop}
 use Rattle.std.specs.List.{flat_map}
 use Rattle.task.specs.TaskParts as parts
-use Rattle.typing_names.specs.Scope.{known_of}
+use Rattle.typing.specs.Scope.{known_of}
 use Rattle.typing.specs.Task.{file_of}
-use Rattle.typing_names.specs.Walk.{found, found_by}
+use Rattle.typing.specs.Walk.{found, found_by}
 use Rattle.pddl_tree.specs.Tree as read
 use Rattle.model.specs.Typing as typing
 use Rattle.typing.proofs.effects.literals.Given as goal

@@ -1,11 +1,11 @@
 use Rattle.std.proofs.Common.{refl}
 use Rattle.typing.specs.Task.{file_of}
-use Rattle.typing_names.specs.Scope.{known_of}
-use Rattle.typing_names.specs.Walk.{found_by}
+use Rattle.typing.specs.Scope.{known_of}
+use Rattle.typing.specs.Walk.{found_by}
 use Rattle.pddl_tree.specs.declared.tree.Increase.{Increase}
 use Rattle.pddl_tree.specs.Tree as read
 use Rattle.model.specs.Typing as typing
-use Rattle.typing_names.proofs.Found as finding
+use Rattle.typing.proofs.Found as finding
 use Rattle.typing.proofs.functions.check_amounts.Goals as goal
 
 pub loop-increase-preserved : goal.loop-increase-preserved

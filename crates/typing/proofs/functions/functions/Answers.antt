@@ -1,16 +1,16 @@
 use Rattle.std.proofs.Common.{◌≡◌, ◌∙◌, [], ◌++◌, if◌then◌else◌, map, fold, ap}
 use Rattle.std.specs.List.{list_any}
 use Rattle.std.specs.Option.{option_map_or}
-use Rattle.typing_names.specs.Scope.{keys_in}
-use Rattle.typing_names.specs.Walk.{found, found_by, nothing}
+use Rattle.typing.specs.Scope.{keys_in}
+use Rattle.typing.specs.Walk.{found, found_by, nothing}
 use Rattle.task.specs.TaskParts as parts
 use Rattle.pddl_tree.specs.Tree as read
 use Rattle.model.specs.Trees as tree
 use Rattle.model.specs.Trees.{problem_file}
 use Rattle.model.specs.Typing as typing
-use Rattle.typing_names.proofs.Empty as empty
-use Rattle.typing_names.proofs.Found as finding
-use Rattle.typing_names.proofs.Reports as printing
+use Rattle.typing.proofs.Empty as empty
+use Rattle.typing.proofs.Found as finding
+use Rattle.typing.proofs.Reports as printing
 use Rattle.typing.proofs.Costs.{cost_declared, metric_faults, metric_reported}
 use Rattle.typing.proofs.functions.functions.Goals as goal
 

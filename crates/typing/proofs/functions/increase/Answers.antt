@@ -2,14 +2,14 @@ use Rattle.std.proofs.Common.{◌≡◌, ◌∙◌, List, ap, sym}
 use Rattle.std.specs.List.{flat_map}
 use Rattle.std.proofs.lemmas.List.Folds.{flat_map-map}
 use Rattle.typing.specs.Task.{file_of}
-use Rattle.typing_names.specs.Scope.{known_of}
-use Rattle.typing_names.specs.Walk.{found, found_by}
+use Rattle.typing.specs.Scope.{known_of}
+use Rattle.typing.specs.Walk.{found, found_by}
 use Rattle.pddl_tree.specs.declared.tree.Increase.{Increase}
 use Rattle.pddl_tree.specs.Tree as read
 use Rattle.model.specs.Trees as tree
 use Rattle.model.specs.Typing as typing
-use Rattle.typing_names.proofs.Found.{found_after}
-use Rattle.typing_names.proofs.Reports.{on_ok_weaker}
+use Rattle.typing.proofs.Found.{found_after}
+use Rattle.typing.proofs.Reports.{on_ok_weaker}
 use Rattle.typing.proofs.functions.increase.Goals as goal
 
 pub returns-clause-finds : goal.returns-clause-finds

@@ -1,6 +1,6 @@
 use Rattle.std.proofs.Common.{◌≡◌, map, drop}
 use Rattle.typing.specs.Task.{file_of}
-use Rattle.typing_names.specs.Walk.{found, found_by}
+use Rattle.typing.specs.Walk.{found, found_by}
 use Rattle.pddl_tree.specs.Tree as read
 use Rattle.model.specs.Typing as typing
 use Rattle.typing.proofs.functions.refuse_increases.Given as goal

@@ -2,7 +2,7 @@ use Rattle.std.proofs.Common.{◌∙◌, [], ◌∷◌, sym, subst}
 use Rattle.std.proofs.lemmas.Result.{IfErr-weaker, on_ok_weaker}
 use Rattle.faults.proofs.Results.{passed_on}
 use Rattle.pddl_tree.specs.Tree.{domain_of, problem_of}
-use Rattle.typing_names.proofs.Reports.{reports_here, reports_later}
+use Rattle.typing.proofs.Reports.{reports_here, reports_later}
 use Rattle.typing.specs.Declarations.{declared_faults}
 use Rattle.typing.specs.Listed.{faults_listed, use_faults}
 use Rattle.typing.specs.Task.{ReportsAll}

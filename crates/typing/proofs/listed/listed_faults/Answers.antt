@@ -2,7 +2,7 @@ use Rattle.std.proofs.Common.{◌∙◌, map, take, ap, sym}
 use Rattle.std.proofs.lemmas.List.Sorted.{IsPermutation-refl}
 use Rattle.faults.proofs.Results.{if_ok}
 use Rattle.pddl_tree.specs.Tree.{domain_of, problem_of}
-use Rattle.typing_names.specs.Refusals.{refusal_of}
+use Rattle.typing.specs.Refusals.{refusal_of}
 use Rattle.typing.specs.Listed.{AreListed, faults_listed}
 use Rattle.typing.proofs.ListedLemmas.{are_faults}
 use Rattle.typing.proofs.listed.listed_faults.Goals.{After-new}

@@ -1,11 +1,11 @@
 use Rattle.std.proofs.Common.{◌≡◌, ◌∙◌, ◌++◌, ap}
 use Rattle.pddl_tree.specs.Tree.{domain_of, file_of, problem_of}
-use Rattle.typing_names.specs.declared.scope.Globals.{Globals}
-use Rattle.typing_names.specs.Resolver.{file_in, known_to}
-use Rattle.typing_names.specs.Scope.{known_outside, known_over}
-use Rattle.typing_names.specs.Walk.{found, found_by, nothing}
-use Rattle.typing_names.proofs.Found.{found_after}
-use Rattle.typing_names.proofs.Reports as printing
+use Rattle.typing.specs.declared.scope.Globals.{Globals}
+use Rattle.typing.specs.Resolver.{file_in, known_to}
+use Rattle.typing.specs.Scope.{known_outside, known_over}
+use Rattle.typing.specs.Walk.{found, found_by, nothing}
+use Rattle.typing.proofs.Found.{found_after}
+use Rattle.typing.proofs.Reports as printing
 use Rattle.typing.proofs.Tasks.{names_in_domain, names_in_problem}
 use Rattle.typing.specs.Listed.{use_faults}
 use Rattle.model.specs.Trees.{problem_file}

@@ -1,8 +1,8 @@
 use Rattle.std.proofs.Common.{◌∙◌, ap}
 use Rattle.pddl_tree.specs.Tree.{file_of, problem_of}
-use Rattle.typing_names.specs.Resolver.{file_in, known_to}
-use Rattle.typing_names.specs.Walk.{found, found_by}
-use Rattle.typing_names.proofs.Found.{found_after}
+use Rattle.typing.specs.Resolver.{file_in, known_to}
+use Rattle.typing.specs.Walk.{found, found_by}
+use Rattle.typing.proofs.Found.{found_after}
 use Rattle.model.specs.Typing.{formula_faults, init_faults}
 use Rattle.typing.proofs.listed.walk_statements.Goals as goal
 

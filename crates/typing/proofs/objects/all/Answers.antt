@@ -1,13 +1,13 @@
 use Rattle.std.proofs.Common.{◌≡◌, ◌≤◌, ◌∙◌, [], ◌++◌, map, length, ap, arith}
-use Rattle.typing_names.specs.Walk.{found, found_by, nothing}
+use Rattle.typing.specs.Walk.{found, found_by, nothing}
 use Rattle.task.specs.TaskParts as parts
-use Rattle.typing_names.specs.TypedLists.{declared_of}
-use Rattle.typing_names.specs.Scope.{keys_in}
+use Rattle.typing.specs.TypedLists.{declared_of}
+use Rattle.typing.specs.Scope.{keys_in}
 use Rattle.model.specs.Typing as typing
 use Rattle.std.proofs.lemmas.List.{length-map}
-use Rattle.typing_names.proofs.Found as finding
-use Rattle.typing_names.proofs.Reports as printing
-use Rattle.typing_names.proofs.Empty as empty
+use Rattle.typing.proofs.Found as finding
+use Rattle.typing.proofs.Reports as printing
+use Rattle.typing.proofs.Empty as empty
 use Rattle.typing.proofs.objects.all.Goals as goal
 
 pub returns : goal.returns

@@ -1,10 +1,10 @@
 use Rattle.std.proofs.Common.{◌≡◌, ◌≤◌, ◌∙◌, List, [], ◌++◌, map, length, take, drop, ap, sym, arith}
 use Rattle.std.proofs.lemmas.List.{length-map, length-take, map-append, take-append-drop, take-map}
-use Rattle.typing_names.specs.Scope.{keys_in}
+use Rattle.typing.specs.Scope.{keys_in}
 use Rattle.task.specs.TaskParts.{object_entry_of}
-use Rattle.typing_names.specs.TypedLists.{declared_of}
+use Rattle.typing.specs.TypedLists.{declared_of}
 use Rattle.model.specs.Typing as typing
-use Rattle.typing_names.proofs.Empty as empty
+use Rattle.typing.proofs.Empty as empty
 use Rattle.typing.proofs.objects.made.Goals.{In_ok-constants}
 use Rattle.typing.proofs.objects.made.Goals as goal
 

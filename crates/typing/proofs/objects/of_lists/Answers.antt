@@ -2,10 +2,10 @@ use Rattle.std.proofs.Common.{◌≡◌, ◌∙◌, List, ◌++◌, map, length,
 use Rattle.std.proofs.Math.Seq.{take-append_seam}
 use Rattle.std.proofs.lemmas.List.{length-append, length-map}
 use Rattle.pddl_tree.specs.Tree as read
-use Rattle.typing_names.specs.Scope.{keys_in}
+use Rattle.typing.specs.Scope.{keys_in}
 use Rattle.typing.specs.DeclaredObjects.{AreMade}
 use Rattle.typing.specs.Task.{ReportsAll}
-use Rattle.typing_names.specs.TypedLists.{declared_of}
+use Rattle.typing.specs.TypedLists.{declared_of}
 use Rattle.model.specs.Trees.{domain_file, problem_file}
 use Rattle.model.specs.Typing as typing
 use Rattle.typing.proofs.objects.of_lists.Goals.{After-as_slice}

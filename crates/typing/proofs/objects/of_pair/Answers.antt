@@ -1,7 +1,7 @@
 use Rattle.std.proofs.Common.{◌≡◌, ◌∙◌, ◌++◌, map, ap, sym, subst, IfErr}
 use Rattle.std.proofs.lemmas.Result.{IfOk-weaker}
 use Rattle.pddl_tree.specs.Tree as read
-use Rattle.typing_names.specs.Scope.{keys_in}
+use Rattle.typing.specs.Scope.{keys_in}
 use Rattle.typing.specs.DeclaredObjects.{AreObjects}
 use Rattle.typing.specs.Task.{ReportsAll}
 use Rattle.model.specs.Trees.{domain_file, problem_file}

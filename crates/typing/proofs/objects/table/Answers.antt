@@ -1,13 +1,13 @@
 use Rattle.std.proofs.Common.{◌∙◌, [], map, ap, sym}
-use Rattle.typing_names.specs.Walk.{found, found_by}
+use Rattle.typing.specs.Walk.{found, found_by}
 use Rattle.task.specs.TaskParts as parts
-use Rattle.typing_names.specs.TypedLists.{declared_of, placed_of}
-use Rattle.typing_names.specs.Scope.{keys_in}
+use Rattle.typing.specs.TypedLists.{declared_of, placed_of}
+use Rattle.typing.specs.Scope.{keys_in}
 use Rattle.model.specs.Typing as typing
 use Rattle.std.proofs.lemmas.List.{drop_all}
-use Rattle.typing_names.specs.declared.typed_lists.Declared.{Declared}
+use Rattle.typing.specs.declared.typed_lists.Declared.{Declared}
 use Rattle.typing.proofs.TableSteps as tables
-use Rattle.typing_names.proofs.Found as finding
+use Rattle.typing.proofs.Found as finding
 use Rattle.typing.proofs.objects.table.Goals as goal
 
 pub loop-one-preserved : goal.loop-one-preserved

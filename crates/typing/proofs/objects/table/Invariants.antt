@@ -1,8 +1,8 @@
 use Rattle.std.proofs.Common.{◌≡◌, [], ◌++◌, map, drop}
-use Rattle.typing_names.specs.Walk.{found, found_by}
+use Rattle.typing.specs.Walk.{found, found_by}
 use Rattle.task.specs.TaskParts as parts
-use Rattle.typing_names.specs.TypedLists.{declared_of, placed_of}
-use Rattle.typing_names.specs.Scope.{keys_in}
+use Rattle.typing.specs.TypedLists.{declared_of, placed_of}
+use Rattle.typing.specs.Scope.{keys_in}
 use Rattle.model.specs.Typing as typing
 use Rattle.typing.proofs.objects.table.Given as goal
 

@@ -1,12 +1,12 @@
 use Rattle.std.proofs.Common.{◌≡◌, ◌∙◌, None, Some, [], if◌then◌else◌, map, ap, sym}
 use Rattle.std.specs.Option.{option_map}
-use Rattle.typing_names.specs.Scope.{known_of}
-use Rattle.typing_names.specs.Walk.{found, found_by}
+use Rattle.typing.specs.Scope.{known_of}
+use Rattle.typing.specs.Walk.{found, found_by}
 use Rattle.task.specs.TaskParts as parts
 use Rattle.pddl_tree.specs.Tree as read
 use Rattle.model.specs.Trees as tree
 use Rattle.model.specs.Typing as typing
-use Rattle.typing_names.proofs.Found.{found_after}
+use Rattle.typing.proofs.Found.{found_after}
 use Rattle.typing.proofs.Values.{reported_of_named}
 use Rattle.typing.proofs.statements.add_value.Goals as goal
 

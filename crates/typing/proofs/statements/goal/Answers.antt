@@ -1,16 +1,16 @@
 use Rattle.std.proofs.Common.{◌≡◌, ◌∙◌, ap, subst, sym}
 use Rattle.typing.specs.Task.{file_of}
-use Rattle.typing_names.specs.declared.scope.Globals.{Globals}
+use Rattle.typing.specs.declared.scope.Globals.{Globals}
 use Rattle.std.proofs.lemmas.Result.{IfOk-weaker}
-use Rattle.typing_names.specs.declared.formulas.FormulaWithNames.{FormulaWithNames}
-use Rattle.typing_names.specs.QuantifiedNames.{quantified_names}
-use Rattle.typing_names.specs.Resolver.{file_in, known_to}
-use Rattle.typing_names.specs.Scope.{known_outside, known_over, names_in}
-use Rattle.typing_names.specs.Walk.{found, found_by, nothing}
+use Rattle.typing.specs.declared.formulas.FormulaWithNames.{FormulaWithNames}
+use Rattle.typing.specs.QuantifiedNames.{quantified_names}
+use Rattle.typing.specs.Resolver.{file_in, known_to}
+use Rattle.typing.specs.Scope.{known_outside, known_over, names_in}
+use Rattle.typing.specs.Walk.{found, found_by, nothing}
 use Rattle.task.specs.TaskParts as parts
 use Rattle.pddl_tree.specs.Tree as read
 use Rattle.model.specs.Typing as typing
-use Rattle.typing_names.proofs.Reports as printing
+use Rattle.typing.proofs.Reports as printing
 use Rattle.typing.proofs.statements.goal.Goals as goal
 
 pub returns : goal.returns

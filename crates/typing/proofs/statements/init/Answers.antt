@@ -1,12 +1,12 @@
 use Rattle.std.proofs.Common.{◌≡◌, ◌∙◌, [], map, ap}
 use Rattle.std.specs.List.{flat_map}
 use Rattle.typing.specs.Task.{file_of}
-use Rattle.typing_names.specs.Scope.{known_over, narrow_atoms_in}
-use Rattle.typing_names.specs.Walk.{found, found_by, nothing}
+use Rattle.typing.specs.Scope.{known_over, narrow_atoms_in}
+use Rattle.typing.specs.Walk.{found, found_by, nothing}
 use Rattle.task.specs.TaskParts as parts
 use Rattle.pddl_tree.specs.Tree as read
 use Rattle.model.specs.Typing as typing
-use Rattle.typing_names.proofs.Reports as printing
+use Rattle.typing.proofs.Reports as printing
 use Rattle.typing.proofs.statements.init.Goals as goal
 
 pub returns : goal.returns

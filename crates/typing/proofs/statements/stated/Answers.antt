@@ -2,13 +2,13 @@ use Rattle.std.proofs.Common.{◌∙◌, ◌++◌, map, ap, sym}
 use Rattle.std.specs.List.{flat_map}
 use Rattle.std.proofs.lemmas.List.Folds.{flat_map-map}
 use Rattle.typing.specs.Task.{file_of}
-use Rattle.typing_names.specs.Walk.{found, found_by}
+use Rattle.typing.specs.Walk.{found, found_by}
 use Rattle.task.specs.TaskParts as parts
-use Rattle.typing_names.specs.Scope.{known_of, narrow_atoms_in}
+use Rattle.typing.specs.Scope.{known_of, narrow_atoms_in}
 use Rattle.pddl_tree.specs.Tree as read
 use Rattle.model.specs.Typing as typing
 use Rattle.pddl_tree.specs.declared.tree.Fact.{Fact}
-use Rattle.typing_names.proofs.Found as finding
+use Rattle.typing.proofs.Found as finding
 use Rattle.typing.proofs.Values.{values_step, facts_step, values_end, facts_end}
 use Rattle.typing.proofs.statements.stated.Goals as goal
 

@@ -1,9 +1,9 @@
 use Rattle.std.proofs.Common.{◌∙◌, [], map, drop, ap}
 use Rattle.std.specs.List.{flat_map}
 use Rattle.typing.specs.Task.{file_of}
-use Rattle.typing_names.specs.Scope.{known_of, narrow_atoms_in}
-use Rattle.typing_names.specs.Walk.{found, found_by}
-use Rattle.typing_names.proofs.Found.{found_after}
+use Rattle.typing.specs.Scope.{known_of, narrow_atoms_in}
+use Rattle.typing.specs.Walk.{found, found_by}
+use Rattle.typing.proofs.Found.{found_after}
 use Rattle.pddl_tree.specs.Tree as read
 use Rattle.model.specs.Typing as typing
 use Rattle.typing.proofs.statements.walked_init.Goals as goal

@@ -1,7 +1,7 @@
 use Rattle.std.proofs.Common.{◌≡◌, ◌∙◌, [], ◌∷◌, map, ap, sym, subst}
 use Rattle.faults.proofs.Results.{passed_on}
 use Rattle.pddl_tree.specs.Tree.{domain_of, problem_of}
-use Rattle.typing_names.proofs.Reports.{reports_here, reports_later}
+use Rattle.typing.proofs.Reports.{reports_here, reports_later}
 use Rattle.typing.specs.Declarations.{declared_faults, type_faults_of}
 use Rattle.typing.specs.Task.{ReportsAll}
 use Rattle.typing.proofs.ListedLemmas.{no_object, objects_named}

@@ -2,10 +2,10 @@ use Rattle.std.proofs.Common.{◌≡◌, ◌∙◌, [], ◌∷◌, ap, sym, subs
 use Rattle.std.specs.List.{flat_map}
 use Rattle.pddl_tree.specs.Tree.{problem_of}
 use Rattle.typing.specs.Task.{file_of, ReportsAll}
-use Rattle.typing_names.specs.Scope.{known_outside, known_over, narrow_atoms_in}
+use Rattle.typing.specs.Scope.{known_outside, known_over, narrow_atoms_in}
 use Rattle.typing.specs.Declarations.{stated_faults_in}
 use Rattle.model.specs.Typing.{init_faults, formula_faults, first_filled, values_after}
-use Rattle.typing_names.proofs.Reports.{reports_here, reports_later}
+use Rattle.typing.proofs.Reports.{reports_here, reports_later}
 use Rattle.faults.proofs.Results.{passed_on}
 use Rattle.typing.proofs.names.Start.stated_in.Goals.{After-new-variables}
 use Rattle.typing.proofs.names.Start.stated_in.Goals as goal

@@ -1,6 +1,0 @@
-use Rattle.std.proofs.Common.{subst}
-use Rattle.typing.specs.Task.{ReportsAll}
-use Rattle.typing.proofs.resolver.least.Goals as goal
-
-pub returns-in-At : goal.returns-in-At
-returns-in-At c = λ faults reported. (subst (ReportsAll faults) c.in-At.is reported).first

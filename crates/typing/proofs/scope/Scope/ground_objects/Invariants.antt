@@ -1,0 +1,16 @@
+use Rattle.std.proofs.Common.{◌≡◌, map, take, drop}
+use Rattle.pddl_tree.specs.Tree.{file_of}
+use Rattle.typing.specs.Scope.{arguments_at, known_of}
+use Rattle.typing.specs.Walk.{found, found_by}
+use Rattle.task.specs.TaskParts as parts
+use Rattle.pddl_tree.specs.Tree as read
+use Rattle.model.specs.Trees as tree
+use Rattle.model.specs.Typing as typing
+use Rattle.typing.proofs.scope.Scope.ground_objects.Given as goal
+
+abbrev pub invariant-loop-index : goal.invariant-loop-index
+invariant-loop-index l = record {
+  objects : map parts.object_of l.objects.items ≡ take 8 (map (λ n. typing.number_in (typing.names_of_objects (known_of l.self).objects) (read.name_of n)) (take l.index l.given));
+  finds : found (found_by l.walk) (typing.terms_faults (file_of l.self.globals.now.file) (known_of l.self) (drop l.index (arguments_at (known_of l.self) l.predicate.0)) (map (λ n. tree.object (read.name_of n)) (drop l.index l.given)))
+      ≡ found (found_by l.initial.walk) (typing.terms_faults (file_of l.self.globals.now.file) (known_of l.self) (arguments_at (known_of l.self) l.predicate.0) (map (λ n. tree.object (read.name_of n)) l.given));
+}

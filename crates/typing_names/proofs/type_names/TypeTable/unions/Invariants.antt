@@ -1,9 +1,0 @@
-use Rattle.std.proofs.Common.{◌≡◌, map, take}
-use Rattle.task.specs.TaskParts as parts
-use Rattle.typing_names.specs.Scope.{keys_in}
-use Rattle.pddl_tree.specs.Tree as read
-use Rattle.model.specs.Typing as typing
-use Rattle.typing_names.proofs.type_names.TypeTable.unions.Given as goal
-
-abbrev pub invariant-loop-one : goal.invariant-loop-one
-invariant-loop-one l = map parts.union_of l.unions.items ≡ map (λ x. typing.union_in (keys_in l.self.by_name.entries) (map read.name_of x.types.now)) (take l.one-index l.declared)

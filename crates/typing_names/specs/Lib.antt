@@ -1,6 +1,0 @@
-pub mod Refusals
-pub mod Walk
-pub mod TypedLists
-pub mod Scope
-pub mod QuantifiedNames
-pub mod Resolver
