@@ -12,7 +12,7 @@ use packed_state::Packed;
 use search::{Node, StateListing};
 use std::alloc::Global;
 
-/// The number of expanded states by which it is estimated, at most.
+/// The number of expanded states by which it is estimated, at most. With 512, card games took up to twice as long as without asking.
 const MAX_SAMPLES: usize = 64;
 
 /// The steps of all drafts for them, at most.
@@ -22,7 +22,8 @@ const MAX_STEPS: u64 = 50_000_000;
 const STEPS_FOR_SUCCESSOR: u64 = 15;
 
 /// Cost model: a draft of a search counts one part in this many of a sample's. Samples are drafted from nothing. In a search most drafts go
-/// on from the value of the state's parent, and a value serves several states.
+/// on from the value of the state's parent, and a value serves several states. With a lower price elevators of six took 4.8 s for 3.3, and
+/// floortile of 5 by 3 had no answer in 12 s, for 4.8 s.
 const PARTS_OF_SAMPLE: u64 = 3;
 
 /// A trial may list one part in this many of the states that the paused search has listed, and its drafts may take as much of its time.

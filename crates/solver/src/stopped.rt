@@ -52,7 +52,7 @@ enum Expansion {
     Needed,
 }
 
-/// Cost model: evaluating this many tables doubles the time for a state.
+/// Cost model: evaluating this many tables doubles the time for a state. With 24 and 48 none of 14 tasks changed.
 const TABLES_AT_A_TIME: usize = 12;
 
 impl<'a, 'l, 't> Stopped<'a, 'l, 't> {

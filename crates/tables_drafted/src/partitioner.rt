@@ -7,7 +7,8 @@ use abstractions::Abstraction;
 use faults::DraftMemory;
 use potentials_drafted::RandomGenerator;
 
-/// The part, in thousandths, of the states' sum of values that is left without tables that add little.
+/// The part, in thousandths, of the states' sum of values that is left without tables that add little. With 1,000 and with 990 miconic,
+/// lifts that stop and floortile expand the same states; woodworking of five parts 1,242 and 2,136, of six 1,726 and 1,783.
 const NEARLY_ALL: i64 = 998;
 
 /// The numbers of a state's abstract states, by table index.
