@@ -6,7 +6,7 @@ ghost use Rattle.std.specs.Prelude.{◌≡◌, ◌<◌, ◌≤◌, ℕ, Bool, Li
 ghost use Rattle.grounding.specs.Ground.{atoms_in, task_in};
 ghost use Rattle.packed_state.specs.Packed.{bits_of};
 ghost use Rattle.landmark_zones.specs.Landmarks.{landmarks_of};
-ghost use Rattle.table_guides.specs.FairTables.{functions_in, ground_in};
+ghost use Rattle.guides.specs.FairTables.{functions_in, ground_in};
 ghost use Rattle.tables.specs.Several.{Knows, width_of};
 ghost use Rattle.line_evidence.specs.Roles.{CanBeMarked, HaveRolesOf, IsRoleOf, marks_in};
 ghost use Rattle.line_evidence.specs.Shown.{AreSupported};
@@ -14,11 +14,10 @@ ghost use Rattle.line_evidence.specs.Shown.{AreSupported};
 use crate::shown::are_supported;
 use certificate::{Basis, Landmarks, Listed, Mark};
 use faults::NoMemory;
-use landmarks_on_demand::{LandmarksOnDemand, UsedValues};
+use guides::{FairTables, LandmarksOnDemand, UsedValues};
 use packed_state::Packed;
 use search::{FoundStates, Node, NodeStatus, StateListing};
 use std::alloc::Global;
-use table_guides::FairTables;
 use tables::{KnownState, TableFunctions};
 
 /// The marks of found states, in order, and the landmark values that they name.

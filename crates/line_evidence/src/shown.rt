@@ -11,7 +11,7 @@ ghost use Rattle.certificate_definitions.specs.Evidence.{landmark};
 ghost use Rattle.lower_bounds.specs.LandmarkLines.{keep_limits};
 ghost use Rattle.landmark_zones.specs.Landmarks.{landmarks_of, share_of};
 ghost use Rattle.landmarks.specs.Fairness.{AreFairness, is_unfair};
-ghost use Rattle.table_guides.specs.FairTables.{functions_in, ground_in};
+ghost use Rattle.guides.specs.FairTables.{functions_in, ground_in};
 ghost use Rattle.tables.specs.Several.{Knows, several_of, width_of};
 ghost use Rattle.line_evidence.specs.Roles.{marks_in};
 ghost use Rattle.line_evidence.specs.Shown.{AreSupported, IsDeadFairAt, IsShown, IsThere, function_at, has_few_zones, value_by};
@@ -19,11 +19,11 @@ ghost use Rattle.line_evidence.specs.Shown.{AreSupported, IsDeadFairAt, IsShown,
 use crate::marked::{Evaluation, Marked};
 use certificate::{Basis, Landmarks, Mark, NUMBER_LIMIT, Share};
 use faults::NoMemory;
+use guides::FairTables;
 use landmarks::{CutIndex, Fairness, value_in};
 use packed_state::Packed;
 use search::StateListing;
 use std::alloc::Global;
-use table_guides::FairTables;
 use tables::TableFunctions;
 
 /// The maximum number of zones of a landmark value. The line of one with as many is not too long for a certificate's text: a zone takes

@@ -11,7 +11,7 @@ use Rattle.lower_bounds.specs.PotentialFunctions.{score}
 use Rattle.potentials.proofs.GroundLemmas.{numberable}
 use Rattle.potentials_improved.proofs.EstimateLemmas.{fair_guides}
 use Rattle.lower_bounds.specs.TableLaws.{AreOver}
-use Rattle.table_guides.proofs.GuideLemmas.{all_numbered, fair_ones_guide}
+use Rattle.guides.proofs.GuideLemmas.{all_numbered, fair_ones_guide}
 use Rattle.search.specs.Estimates.{IsConsistent}
 use Rattle.solver.specs.Guidance.{Guidance, by_potentials, by_tables, estimate_by, values_by, CanBeWritten, AreFairBy}
 use Rattle.certificate.proofs.WithinLimits.{one_weight_each, scopes_within, weights_of_each}

@@ -8,8 +8,8 @@ ghost use Rattle.devices.specs.Progress.{MayContinue};
 ghost use Rattle.search_spaces.specs.GroundListing.{listed_states};
 ghost use Rattle.search_spaces.specs.SearchSpace.{class_in, ground_in, system_of, IsSearchSpace};
 ghost use Rattle.search.specs.UnderWay.{IsTrueStopBy};
-ghost use Rattle.table_guides.specs.FairTables as guides;
-ghost use Rattle.table_guides.specs.FairTables.{functions_in};
+ghost use Rattle.guides.specs.FairTables as guides;
+ghost use Rattle.guides.specs.FairTables.{functions_in};
 ghost use Rattle.solver.specs.Asked.{IsAsked, IsStoppedWithin, found_at};
 ghost use Rattle.solver.specs.Said.{IsLineWithin};
 ghost use Rattle.solver.specs.Stretches.{IsHaltBy, IsUnderWayBy};
@@ -19,15 +19,14 @@ use crate::searched::{found_in, say_news};
 use crate::setting::{Session, Setting};
 use devices::{Clock, Sink};
 use faults::NoMemory;
+use guides::{DraftLimits, FairTables, LandmarksOnDemand, tested_instances};
 use landmarks::CutIndex;
-use landmarks_on_demand::{DraftLimits, LandmarksOnDemand, tested_instances};
 use line_evidence::{Budget, Marked, tested_marks};
 use search::{
     FoundStates, Guide, Halt, Problem, Search, StateListing, Stop, ValuesOnDemand, begin_asking,
     go_on_asking, stop_asking,
 };
 use search_spaces::{GroundListing, GroundSystem};
-use table_guides::FairTables;
 
 /// A search that asked for landmark values, at its end or stopped since its time is over, and the marks of its found states.
 #[derive(Drop)]

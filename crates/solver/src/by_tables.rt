@@ -23,8 +23,8 @@ ghost use Rattle.solver.specs.Solver.{IsAnswerWithin};
 ghost use Rattle.solver.specs.Versions.{number_of};
 ghost use Rattle.solver.specs.Stopped.{IsStopped};
 ghost use Rattle.solver.specs.Stretches.{IsTrueEnd};
-ghost use Rattle.table_guides.specs.FairTables as guides;
-ghost use Rattle.table_guides.specs.FairTables.{functions_in};
+ghost use Rattle.guides.specs.FairTables as guides;
+ghost use Rattle.guides.specs.FairTables.{functions_in};
 ghost use Rattle.lower_bounds.specs.FairTables.{AreFair};
 
 use crate::answer::{Answer, answer_of};
@@ -40,10 +40,10 @@ use crate::stopped::Stopped;
 use certificate::{Evidence, Landmarks, Version, WrittenPotentials};
 use devices::{Clock, Sink};
 use faults::NoMemory;
+use guides::FairTables;
 use potentials::Potentials;
 use search_spaces::SearchSpace;
 use std::alloc::Global;
-use table_guides::FairTables;
 use tables_drafted::{DraftInput, DraftedTables, drafted_tables};
 
 /// A draft of values over tables: as a certificate has them, and their constants and weights of atoms as potentials.

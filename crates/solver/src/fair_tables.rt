@@ -14,8 +14,8 @@ ghost use Rattle.solver.specs.Said.{IsLineWithin};
 ghost use Rattle.solver.specs.Stopped.{IsStopped};
 ghost use Rattle.solver.specs.Stretches.{IsUnderWay};
 ghost use Rattle.solver.specs.Versions.{number_of};
-ghost use Rattle.table_guides.specs.FairTables as guides;
-ghost use Rattle.table_guides.specs.FairTables.{functions_in};
+ghost use Rattle.guides.specs.FairTables as guides;
+ghost use Rattle.guides.specs.FairTables.{functions_in};
 ghost use Rattle.tables.specs.Several.{Knows};
 
 use crate::asking::{Asked, search_asking};
@@ -24,10 +24,10 @@ use crate::searched::{Stretch, begin_by, go_on_by};
 use crate::setting::{Session, Setting};
 use devices::{Clock, Sink};
 use faults::NoMemory;
+use guides::FairTables;
 use line_evidence::{Budget, Paused, budget_for_trial, pays};
 use search::Search;
 use search_spaces::GroundListing;
-use table_guides::FairTables;
 use tables::KnownState;
 
 /// The pause of a search by tables after which it may ask for landmark values: the number of listed states, at least.

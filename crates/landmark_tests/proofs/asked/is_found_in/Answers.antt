@@ -1,7 +1,7 @@
 use Rattle.std.proofs.Common.{◌∙◌, [], ap, sym}
 use Rattle.model.specs.Task.{Task}
 use Rattle.model.specs.NumberedAtoms.{numbered_atoms}
-use Rattle.table_guides.proofs.GuideLemmas.{all_numbered}
+use Rattle.guides.proofs.GuideLemmas.{all_numbered}
 use Rattle.landmark_tests.proofs.asked.is_found_in.Goals as goal
 
 pub is_found-requires : goal.is_found-requires

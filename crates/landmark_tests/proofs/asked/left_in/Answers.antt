@@ -1,7 +1,7 @@
 use Rattle.std.proofs.Common.{◌∙◌, [], ap, sym}
 use Rattle.model.specs.Task.{Task}
 use Rattle.model.specs.NumberedAtoms.{numbered_atoms}
-use Rattle.table_guides.proofs.GuideLemmas.{all_numbered}
+use Rattle.guides.proofs.GuideLemmas.{all_numbered}
 use Rattle.landmark_tests.proofs.asked.left_in.Goals as goal
 
 pub left-requires : goal.left-requires

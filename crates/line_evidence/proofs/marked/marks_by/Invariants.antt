@@ -1,7 +1,7 @@
 use Rattle.std.proofs.Common.{◌≡◌, ℕ, Bool, List, length, map, take}
 use Rattle.grounding.specs.Ground.{atoms_in}
 use Rattle.search.specs.Outcome.{lines_of}
-use Rattle.table_guides.specs.FairTables.{ground_in}
+use Rattle.guides.specs.FairTables.{ground_in}
 use Rattle.packed_state.specs.Packed.{bits_of}
 use Rattle.tables.specs.Several.{Knows, width_of}
 use Rattle.line_evidence.specs.Roles.{CanBeMarked, role_of, role_of_line}

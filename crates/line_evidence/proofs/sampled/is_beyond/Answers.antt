@@ -2,7 +2,7 @@ use Rattle.std.proofs.Common.{length, map, arith}
 use Rattle.std.proofs.lemmas.List.{length-map}
 use Rattle.packed_state.specs.Packed.{bits_of}
 use Rattle.landmark_zones.specs.Landmarks.{landmarks_of, share_of}
-use Rattle.landmarks_on_demand.proofs.TestedLemmas.{few_shares, kept_over}
+use Rattle.guides.proofs.TestedLemmas.{few_shares, kept_over}
 use Rattle.line_evidence.proofs.sampled.is_beyond.Goals as goal
 
 pub value-requires : goal.value-requires

@@ -14,7 +14,7 @@ use Rattle.certificate.specs.declared.states.Listed.{Listed}
 use Rattle.certificate_definitions.specs.Evidence.{LineMark}
 use Rattle.packed_state.specs.Packed.{bits_of}
 use Rattle.packed_state.proofs.PackedLemmas.{length-set_of}
-use Rattle.table_guides.specs.FairTables.{functions_in, ground_in}
+use Rattle.guides.specs.FairTables.{functions_in, ground_in}
 use Rattle.tables.specs.Several.{several_of, width_of}
 use Rattle.line_evidence.specs.Roles.{marks_in}
 use Rattle.line_evidence.specs.Shown.{IsDeadFairAt, IsShown}

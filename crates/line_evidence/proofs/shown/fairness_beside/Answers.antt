@@ -6,7 +6,7 @@ use Rattle.lower_bounds.specs.LandmarkLines.{keep_limits}
 use Rattle.landmark_zones.specs.Landmarks.{landmarks_of}
 use Rattle.landmarks.specs.Fairness.{AreFairness}
 use Rattle.landmarks.proofs.Kept.{kept-sorted}
-use Rattle.table_guides.specs.FairTables.{ground_in}
+use Rattle.guides.specs.FairTables.{ground_in}
 use Rattle.tables.specs.Several.{several_of}
 use Rattle.line_evidence.proofs.ShownLemmas.{found_here}
 use Rattle.line_evidence.proofs.shown.fairness_beside.Goals as goal

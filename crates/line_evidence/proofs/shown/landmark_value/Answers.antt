@@ -12,7 +12,7 @@ use Rattle.landmarks.proofs.FairnessLemmas.{few-of}
 use Rattle.landmarks.proofs.Kept.{kept-sorted}
 use Rattle.tables.specs.Several.{several_of, width_of}
 use Rattle.line_evidence.specs.Shown.{function_at}
-use Rattle.landmarks_on_demand.proofs.TestedLemmas.{kept_over}
+use Rattle.guides.proofs.TestedLemmas.{kept_over}
 use Rattle.line_evidence.proofs.ShownLemmas.{value_none, value_rows}
 use Rattle.line_evidence.proofs.shown.landmark_value.Goals as goal
 

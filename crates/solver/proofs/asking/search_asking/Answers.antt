@@ -10,9 +10,9 @@ use Rattle.landmark_zones.specs.Landmarks.{landmarks_of}
 use Rattle.landmarks.specs.CutIndex.{asked_in, atoms_of, task_of}
 use Rattle.landmarks.specs.Fairness.{AreAsked}
 use Rattle.landmarks.specs.declared.cut_index.CutIndex.{CutIndex}
-use Rattle.table_guides.specs.FairTables as guides
-use Rattle.table_guides.specs.FairTables.{functions_in}
-use Rattle.table_guides.proofs.GuideLemmas.{all_numbered}
+use Rattle.guides.specs.FairTables as guides
+use Rattle.guides.specs.FairTables.{functions_in}
+use Rattle.guides.proofs.GuideLemmas.{all_numbered}
 use Rattle.search_spaces.specs.GroundListing.{listed_states, listed_width}
 use Rattle.search_spaces.specs.declared.ground_listing.GroundListing.{GroundListing}
 use Rattle.lower_bounds.specs.TableFunctions.{dead_ends_of, functions_of, greatest_value, is_dead_by}

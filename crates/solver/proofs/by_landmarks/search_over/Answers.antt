@@ -10,9 +10,9 @@ use Rattle.lower_bounds.specs.FairTables.{AreFair}
 use Rattle.lower_bounds.specs.Settled.{initial_value}
 use Rattle.lower_bounds.specs.TableFunctions.{SeveralValues}
 use Rattle.potentials.specs.Potentials.{potentials_of}
-use Rattle.table_guides.specs.FairTables as guides
-use Rattle.table_guides.specs.FairTables.{functions_in}
-use Rattle.table_guides.specs.declared.fair_tables.FairTables.{FairTables}
+use Rattle.guides.specs.FairTables as guides
+use Rattle.guides.specs.FairTables.{functions_in}
+use Rattle.guides.specs.declared.fair_tables.FairTables.{FairTables}
 use Rattle.tables.specs.declared.several.TableFunctions.{TableFunctions}
 use Rattle.tables.specs.Several.{several_of, width_of}
 use Rattle.solver.specs.declared.asking.Asked.{Asked}

@@ -8,8 +8,8 @@ use Rattle.model.specs.Grounding.{ground_system}
 use Rattle.lower_bounds.specs.Settled.{initial_value}
 use Rattle.potentials.specs.Potentials.{potentials_of}
 use Rattle.lower_bounds.specs.TableFunctions.{SeveralValues}
-use Rattle.table_guides.specs.FairTables.{functions_in}
-use Rattle.table_guides.specs.declared.fair_tables.FairTables.{FairTables}
+use Rattle.guides.specs.FairTables.{functions_in}
+use Rattle.guides.specs.declared.fair_tables.FairTables.{FairTables}
 use Rattle.tables.specs.declared.several.TableFunctions.{TableFunctions}
 use Rattle.tables.specs.Several.{several_of, width_of}
 use Rattle.solver.specs.declared.attempt.Attempt.{Attempt}

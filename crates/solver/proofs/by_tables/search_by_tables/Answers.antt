@@ -8,9 +8,9 @@ use Rattle.lower_bounds.specs.Settled.{initial_value}
 use Rattle.lower_bounds.specs.TableFunctions.{SeveralValues}
 use Rattle.model.specs.Grounding.{ground_system}
 use Rattle.potentials.specs.Potentials.{potentials_of}
-use Rattle.table_guides.specs.FairTables as guides
-use Rattle.table_guides.specs.FairTables.{functions_in}
-use Rattle.table_guides.specs.declared.fair_tables.FairTables.{FairTables}
+use Rattle.guides.specs.FairTables as guides
+use Rattle.guides.specs.FairTables.{functions_in}
+use Rattle.guides.specs.declared.fair_tables.FairTables.{FairTables}
 use Rattle.solver.specs.Attempts.{IfDone}
 use Rattle.solver.specs.Asked.{IsTablesEnding}
 use Rattle.solver.specs.Guidance.{by_tables, estimate_by}

@@ -2,7 +2,7 @@ use Rattle.std.proofs.Common.{◌∙◌, [], sym, subst}
 use Rattle.grounding.specs.declared.ground.Ground.{Ground}
 use Rattle.grounding.specs.Ground.{task_in, atoms_in}
 use Rattle.lower_bounds.specs.TableLaws.{AreAllNumbered}
-use Rattle.table_guides.proofs.GuideLemmas.{all_numbered}
+use Rattle.guides.proofs.GuideLemmas.{all_numbered}
 use Rattle.tables.specs.Several.{several_of, ReportsValues}
 use Rattle.search_spaces.specs.SearchSpace.{ground_in}
 use Rattle.solver.proofs.fair_guide.guide_if_fair.Goals as goal

@@ -1,0 +1,4 @@
+pub mod TestedLemmas
+pub mod ShownLemmas
+pub mod AskedLemmas
+pub mod GuideLemmas

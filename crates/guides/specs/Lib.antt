@@ -1,0 +1,4 @@
+pub mod Tested
+pub mod Shown
+pub mod Guides
+pub mod FairTables

@@ -1,3 +1,0 @@
-pub mod TestedLemmas
-pub mod ShownLemmas
-pub mod AskedLemmas

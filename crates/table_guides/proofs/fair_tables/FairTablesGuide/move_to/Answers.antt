@@ -1,5 +1,0 @@
-use Rattle.std.proofs.Common.{◌∙◌, sym}
-use Rattle.table_guides.proofs.fair_tables.FairTablesGuide.move_to.Goals as goal
-
-pub move_to-requires-clause-width : goal.move_to-requires-clause-width
-move_to-requires-clause-width c = c.requires.width ∙ sym c.args.self.now.width

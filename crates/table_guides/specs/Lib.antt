@@ -1,2 +1,0 @@
-pub mod Guides
-pub mod FairTables

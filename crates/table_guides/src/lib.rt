@@ -1,6 +1,0 @@
-//! Guides a search by values over tables.
-#![tactic(auto)]
-
-mod fair_tables;
-
-pub use fair_tables::FairTables;
