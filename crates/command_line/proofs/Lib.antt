@@ -1,3 +1,4 @@
+pub mod LeanLemmas
 pub mod OrderLemmas
 pub mod Described
 pub mod ExampleProofs

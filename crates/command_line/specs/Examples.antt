@@ -72,6 +72,9 @@ pub record AreRead : Type 0 where
   pub an_option_of_solve : AreRefused (codes "validate" ∷ codes "d" ∷ codes "p" ∷ codes "l" ∷ codes "--states" ∷ codes "5" ∷ []) (UnknownArgument ∷ [])
   pub no_problem_to_explain : AreRefused (codes "explain" ∷ codes "d" ∷ []) (MissingRequiredArgument ∷ [])
   pub a_trace_without_a_plan : IsCommand (codes "explain" ∷ codes "d" ∷ codes "p" ∷ codes "--trace" ∷ []) → ⊥
+  pub the_domain_written_over : IsCommand (words (codes "--cert" ∷ codes "d" ∷ [])) → ⊥
+  pub the_problem_by_another_name : IsCommand (words (codes "--plan" ∷ codes "./x//../p" ∷ [])) → ⊥
+  pub one_file_for_both : IsCommand (words (codes "--plan" ∷ codes "x/./y" ∷ codes "--cert" ∷ codes "x//y" ∷ [])) → ⊥
   pub a_plan_too_many : AreRefused (codes "explain" ∷ codes "d" ∷ codes "p" ∷ codes "l" ∷ codes "l" ∷ []) (UnknownArgument ∷ [])
   pub a_plan_by_an_option : IsCommand (codes "explain" ∷ codes "d" ∷ codes "p" ∷ codes "--plan" ∷ codes "l" ∷ []) → ⊥
   pub two_plans : IsCommand (codes "explain" ∷ codes "d" ∷ codes "p" ∷ codes "l" ∷ codes "--cert" ∷ codes "c" ∷ []) → ⊥

@@ -1,5 +1,5 @@
 -- The order given by the words of a command line.
-use Rattle.std.specs.Prelude.{◌≡◌, ℕ, Bool, true, false, List, [], codes, Option, Some, None, if◌then◌else◌, option_and_then}
+use Rattle.std.specs.Prelude.{◌≡◌, ℕ, Bool, true, false, List, [], codes, Option, Some, None, not, ◌||◌, if◌then◌else◌, option_and_then}
 use Rattle.std.specs.Option.{option_map, option_map_or}
 use Rattle.std.specs.Str.{bytes_eq}
 use Rattle.std.specs.Str.Parse.{without_leading_plus, digits_value}
@@ -9,6 +9,7 @@ use Rattle.clap.specs.Faults.{fault_of}
 use Rattle.clap.specs.ValueTests.{is_unsigned_in}
 use Rattle.command_line.specs.Description.{optplan}
 use Rattle.command_line.specs.Limit.{most}
+use Rattle.command_line.specs.OneFile.{is_one_file}
 use Rattle.command_line.specs.Versions.{version_with}
 
 -- the options of `solve`: the limits of states, of instances and, if there is one, of seconds, the latest version that the certificate
@@ -159,9 +160,28 @@ request_in used =
     else (if bytes_eq used.0 (codes "check") then check_in used.1
     else (if bytes_eq used.0 (codes "explain") then explain_in used.1 else None)))
 
--- The words are accepted and give this order.
+-- the name, if there is one, is of this file
+abbrev pub is_of_file : Option Text → Text → Bool
+is_of_file None file = false
+is_of_file (Some name) file = is_one_file name file
+
+-- both names, if there are two, are of one file
+abbrev pub are_of_one_file : Option Text → Option Text → Bool
+are_of_one_file None other = false
+are_of_one_file (Some name) other = is_of_file other name
+
+-- No file that is to be written is another file of the order. Only `solve` writes files.
+abbrev pub keeps_files : Request → Bool
+keeps_files (to_solve domain problem asked) =
+    not (is_of_file asked.plan domain || is_of_file asked.plan problem || is_of_file asked.cert domain || is_of_file asked.cert problem || are_of_one_file asked.plan asked.cert)
+keeps_files (to_validate domain problem plan json) = true
+keeps_files (to_check domain problem cert asked) = true
+keeps_files (to_explain domain problem asked) = true
+keeps_files (to_explain_cert domain problem cert asked) = true
+
+-- The words are accepted and give this order, which keeps its files.
 abbrev pub Asks : List Text → Request → Type 0
-Asks words request = (fault_of optplan words ≡ []) × (option_and_then request_in (subcommand_of optplan words) ≡ Some request)
+Asks words request = (fault_of optplan words ≡ []) × (option_and_then request_in (subcommand_of optplan words) ≡ Some request) × (keeps_files request ≡ true)
 
 -- the words are a command
 abbrev pub IsCommand : List Text → Type 0

@@ -5,6 +5,7 @@ mod cert_version;
 mod description;
 mod fault;
 mod max_count;
+mod one_file;
 mod order;
 mod plain;
 mod reading;

@@ -12,6 +12,7 @@ use crate::cert_version::CertVersion;
 use crate::description::program;
 use crate::fault::WordsFault;
 use crate::max_count::MaxCount;
+use crate::one_file::overwritten;
 use crate::order::Order;
 use clap::error::ErrorKind;
 use clap::{ArgMatches, Error};
@@ -30,16 +31,20 @@ use std::alloc::{AllocError, Global};
 /// Options may come in any order, each at most once, before, between and after the files, as `--states 5` or `--states=5`. A word
 /// after `--` is a file name, even if it begins with a hyphen. A number is from 1 to 16,777,216, in decimal digits after an
 /// optional plus; the default is 1,000,000. Seconds are at most 1,000,000, and not limited by default. Versions of certificates are from
-/// 2 to 4, by default 4. A trace needs a plan, and `--plan` of `explain` needs `--cert`, which goes without the other two. Words that ask
-/// for help or the version are not an order: the fault's text is what they ask for.
+/// 2 to 4, by default 4. A trace needs a plan, and `--plan` of `explain` needs `--cert`, which goes without the other two. The files that
+/// `solve` writes are two, and neither is one that it reads, by their names without `.`, `..` and doubled slashes. Words that ask for help
+/// or the version are not an order: the fault's text is what they ask for.
 pub fn read_words<'a>(alloc: Global, words: &'a [&str]) -> Result<Order<'a>, WordsFault>
     ensures asks { IfOk result (λ order. Asks (texts words.entry.now) (request_of order)) }
     ensures refused { IfErr result (λ fault. IsOfWords fault → IsCommand (texts words.entry.now) → ⊥) }
 {
     let matches = program(alloc)?.try_get_matches_from(words)?;
-    match order_in(&matches) {
-        Some(order) => Ok(order),
-        None => Err(no_order(alloc, &matches)),
+    let Some(order) = order_in(&matches) else {
+        return Err(no_order(alloc, &matches));
+    };
+    match overwritten(alloc, &order)? {
+        None => Ok(order),
+        Some(why) => Err(would_overwrite(alloc, why)),
     }
 }
 
@@ -57,12 +62,25 @@ fn no_order(alloc: Global, matches: &ArgMatches<'_>) -> WordsFault {
     }
 }
 
+/// The fault of an order that would write over one of its files.
+fn would_overwrite(alloc: Global, why: &'static str) -> WordsFault {
+    match conflict(alloc, why) {
+        Ok(error) => WordsFault::Words(error),
+        Err(refused) => WordsFault::from(refused),
+    }
+}
+
+/// The error for arguments that do not go together, for this reason.
+fn conflict(alloc: Global, why: &'static str) -> Result<Error, AllocError> {
+    program(alloc)?.error(ErrorKind::ArgumentConflict, why)
+}
+
 /// The error for options that do not go together.
 fn unfitting(alloc: Global, matches: &ArgMatches<'_>) -> Result<Error, AllocError> {
     if has_value(matches, "cert") {
         let text =
             "`--cert` goes without PLAN and `--trace`: optplan explain DOMAIN PROBLEM --cert FILE [--plan FILE]";
-        program(alloc)?.error(ErrorKind::ArgumentConflict, text)
+        conflict(alloc, text)
     } else if has_value(matches, "plan") {
         let text =
             "`--plan` needs `--cert`: optplan explain DOMAIN PROBLEM PLAN, or --cert FILE --plan FILE";
