@@ -1,6 +1,6 @@
 -- Tested landmark values by their numbers, and what they show.
 use Rattle.std.proofs.Common.{zero-le}
-use Rattle.std.specs.Prelude.{◌≡◌, ℕ, zero, suc, Bool, true, false, IfSome, option_and_then, List, [], ◌∷◌, All, slice_get, Option, None, Some}
+use Rattle.std.specs.Prelude.{◌≡◌, ℕ, zero, suc, Bool, false, IfSome, option_and_then, List, [], ◌∷◌, All, slice_get, Option, None, Some}
 use Rattle.std.specs.Option.{option_map_or}
 use Rattle.std.proofs.lemmas.List.Elements.{All-head, All-tail}
 use Rattle.model.specs.Task.{Atom, Task}

@@ -4,7 +4,7 @@ use Rattle.std.proofs.Math.Path.{fun_ext}
 use Rattle.std.specs.Prelude.{◌^◌, slice_get, IsTrue}
 use Rattle.std.proofs.lemmas.Bool.{cases_eq, false≢true}
 use Rattle.std.proofs.lemmas.Option.{same_Some}
-use Rattle.model.specs.Runs.{System, run, cost_of_all}
+use Rattle.model.specs.Runs.{System, run}
 use Rattle.search.specs.declared.bases.Bases.{Bases}
 use Rattle.search.specs.Estimates.{IsAdmissible, IsLowerBound}
 use Rattle.search.specs.DeadEnds.{IsDeadEnd, ReportsDeadEnds, IsValueUnlessDead}

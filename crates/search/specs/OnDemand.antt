@@ -1,5 +1,5 @@
 -- Values that are found for a single state.
-use Rattle.std.specs.Prelude.{◌≡◌, ℕ, ◌<◌, ◌≤◌, ◌^◌, ◌≢◌, max, ⊤, Bool, true, false, List, slice_get, slice_index_or, Some}
+use Rattle.std.specs.Prelude.{◌≡◌, ℕ, ◌<◌, ◌^◌, ◌≢◌, max, ⊤, Bool, true, false, List, slice_get, slice_index_or, Some}
 use Rattle.model.specs.Runs.{System}
 use Rattle.search.specs.declared.bases.Bases.{Bases}
 use Rattle.search.specs.declared.on_demand.Answer.{Answer}

@@ -81,11 +81,7 @@ impl Standing {
 }
 
 /// What the value of a state rests on by this basis, if there is one.
-pub(crate) fn rest_by<V: ValuesOnDemand>(
-    values: &V,
-    basis: Option<Basis>,
-    state: &Packed,
-) -> Rest
+pub(crate) fn rest_by<V: ValuesOnDemand>(values: &V, basis: Option<Basis>, state: &Packed) -> Rest
     requires { length (bits_of state.now) ≡ V.width_of values.now }
     ensures { IsRestOf V.answers (V.system_of values.now) (bits_of state.now) result.value }
 {

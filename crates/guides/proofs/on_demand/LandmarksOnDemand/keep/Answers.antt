@@ -1,4 +1,4 @@
-use Rattle.std.proofs.Common.{◌≡◌, ◌∙◌, ◌≤◌, ℕ, true, refl, sym, subst, arith}
+use Rattle.std.proofs.Common.{◌≡◌, ◌∙◌, ℕ, true, refl, sym, subst, arith}
 use Rattle.packed_state.specs.Packed.{bits_of}
 use Rattle.model.specs.Grounding.{ground_system}
 use Rattle.landmarks.specs.CutIndex.{atoms_of, task_of}

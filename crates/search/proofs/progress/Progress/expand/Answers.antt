@@ -1,4 +1,4 @@
-use Rattle.std.proofs.Common.{◌≡◌, ◌≢◌, ℕ, Bool, List, Option, ◌+◌, length, get_or, drop, set, refl, sym, ap, ◌∙◌, subst, arith, Some, true, false, ◌∷◌}
+use Rattle.std.proofs.Common.{◌≡◌, ◌≢◌, ℕ, Bool, List, ◌+◌, length, get_or, drop, set, refl, sym, ap, ◌∙◌, subst, arith, Some, true, false, ◌∷◌}
 use Rattle.std.specs.Prelude.{IsTrue, is_some, slice_get}
 use Rattle.search.specs.declared.nodes.NodeStatus.TheVariants.{Reopened, Expanded}
 use Rattle.search.specs.OpenList.{waiting_in}

@@ -15,7 +15,7 @@ use Rattle.search.specs.Listing.{IsPlacedBy}
 use Rattle.search.specs.Nodes.{found_of}
 use Rattle.search.specs.OnDemand.{AreValued}
 use Rattle.search.specs.Standing.{IsStandingAt}
-use Rattle.search.specs.Progress.{HoldsIn, IsExpanding, IsReachedWithin, IsReachedCheaper, IsListed, IsLeftOut, Reaches, IsFull, TakesPlace}
+use Rattle.search.specs.Progress.{HoldsIn, IsExpanding, IsReachedWithin, IsReachedCheaper, IsListed, IsLeftOut, Reaches, IsFull}
 use Rattle.search.proofs.Limit.{more_reachable}
 use Rattle.search.proofs.Linked.{found_of-get, length-found_of}
 use Rattle.search.proofs.Reached.{place_among, placed_within, placed_nowhere, free_for, match_each, reached_before}

@@ -1,10 +1,9 @@
-use Rattle.std.proofs.Common.{◌≡◌, ℕ, ◌<◌, Bool, true, false, None, Some, length, get_or, refl, sym, ap, ◌∙◌, subst}
+use Rattle.std.proofs.Common.{◌≡◌, ◌<◌, Bool, None, Some, length, refl, sym, ap, ◌∙◌, subst}
 use Rattle.std.specs.Prelude.{slice_get, if◌then◌else◌}
 use Rattle.std.proofs.lemmas.Option.{slice_get-get_or}
 use Rattle.packed_state.specs.Packed.{bits_of}
 use Rattle.search.specs.declared.bases.Rest.{Rest}
 use Rattle.search.specs.declared.listing.Place.{Place}
-use Rattle.search.specs.declared.listing.Place.TheVariants.{Listed}
 use Rattle.search.specs.declared.turns.Standing.TheVariants.{Dead, Based}
 use Rattle.search.specs.OnDemand.{noted_at}
 use Rattle.search.specs.Standing.{IsStandingAt}
