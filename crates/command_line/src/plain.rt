@@ -37,6 +37,8 @@ fn add_plain(line: &str, text: &mut String) -> Result<(), AllocError> {
     if let Some(before) = line.strip_suffix("invalid digit found in string") {
         let example = if before.contains("--cert-version") {
             "2"
+        } else if before.contains("--seconds") {
+            "10"
         } else {
             "1000000"
         };
