@@ -1,15 +1,18 @@
 """Plans as other planners write them, and their steps in the plan format of docs/language.md.
 
-`tools/plan-of` prints what is read here, and `bench/score` judges it. It needs nothing but Python 3.8."""
+`tools/plan-of` prints what is read here, and `bench/score` judges it. `plan_logs` finds the plan of a whole log. It needs nothing
+but Python 3.8."""
 
 from __future__ import annotations
 
 import codecs
 import re
 from bisect import bisect_right
-from dataclasses import dataclass
+from dataclasses import dataclass, replace
 from decimal import Decimal
 from typing import Iterator, Union
+
+from plan_logs import Log, NoPlanInLog, log_in
 
 # What a refusal gives as an example.
 EXAMPLE = "`(drive t1 a)`"
@@ -104,8 +107,31 @@ class Plan:
 
 def read_plan(data: bytes) -> Plan:
     """The plan that a file's bytes are. Raises `NotAPlan` where they are none."""
-    parts = [*Reader(decoded(data)).parts()]
-    return in_order(parts)
+    reader = Reader(decoded(data))
+    try:
+        return in_order([*reader.parts()])
+    except NotAPlan:
+        # A text that is a plan is no log, so that nothing of it is left out.
+        log = log_of(reader)
+        if log is None:
+            raise
+    return plan_in(log)
+
+
+def log_of(reader: Reader) -> Log | None:
+    """The log that a text is which is refused as a plan; None where it is none."""
+    try:
+        return log_in(reader.text, reader.first_begin)
+    except NoPlanInLog as why:
+        raise NotAPlan(why.line + 1, 1, why.why) from None
+
+
+def plan_in(log: Log) -> Plan:
+    """The plan of a log."""
+    plan = in_order([*Reader(log.text).parts()])
+    if log.steps is not None and log.steps != len(plan.steps):
+        raise NotAPlan(log.told_in + 1, 1, f"the steps before this line are {len(plan.steps)}, and not {log.steps}")
+    return replace(plan, notes=(*log.notes, *plan.notes))
 
 
 def decoded(data: bytes) -> str:
@@ -126,7 +152,8 @@ class Reader:
         self.lines = [0, *(it.end() for it in re.finditer("\n", text))]
         # Whether a word alone on its line is a step, as unified-planning writes one without objects.
         self.has_heading = False
-        # Where the last step ends; None before the first one.
+        # Where the first step begins, and where the last one ends; None before the first one.
+        self.first_begin: int | None = None
         self.last_end: int | None = None
 
     def line_at(self, at: int) -> int:
@@ -156,8 +183,9 @@ class Reader:
             elif TOOK.match(self.text, self.at):
                 yield Comment(f"; {self.take(TOOK)[0].strip()}", False)
             else:
-                is_list = self.last_end is None and LIST.match(self.text, self.at)
-                yield from self.listed() if is_list else [self.step()]
+                begin, is_first = self.at, self.last_end is None
+                yield from self.listed() if is_first and LIST.match(self.text, begin) else [self.step()]
+                self.first_begin = begin if is_first else self.first_begin
                 self.last_end = self.at
             self.take(BLANKS)
 
