@@ -23,7 +23,9 @@ from batching.limits import wider  # noqa: E402
 from batching.lines import Check, Explained, Line, Result  # noqa: E402
 from batching.progress import Progress  # noqa: E402
 from batching.reading import contradictions, read_run  # noqa: E402
+from batching.rows import as_csv  # noqa: E402
 from batching.runs import Program, Settings  # noqa: E402
+from batching.scores import Score, Verdict  # noqa: E402
 import test_batch  # noqa: E402
 
 
@@ -102,7 +104,7 @@ class RunsRead(test_batch.Room):
 
     def put_run(self, name, *lines, texts="same", states=3, is_unproved=False, checker=None):
         program = replace(Program.at(str(self.program)), is_unproved=is_unproved)
-        settings = Settings(program, checker or program, 1, 2, states, 4, True)
+        settings = Settings(program, checker or program, 100, 2, states, 4, True)
         self.put(f"{name}/run.json", json.dumps(asdict(settings)))
         self.put(f"{name}/results.jsonl", "".join(replace(it, program=program.sum, texts=texts).text() for it in lines))
 
@@ -128,9 +130,9 @@ class Contradictions(RunsRead):
 
 
 class Reports(RunsRead):
-    def report(self, *names):
+    def report(self, *names, more=()):
         words = [sys.executable, f"{ROOT}/bench/batch-report", *(str(self.room / it) for it in names)]
-        ran = subprocess.run([*words, "--into", str(self.room / "page.html")], stderr=subprocess.PIPE, text=True)
+        ran = subprocess.run([*words, "--into", str(self.room / "page.html"), *more], stderr=subprocess.PIPE, text=True)
         return ran.stderr or (self.room / "page.html").read_text()
 
     def test_runs_stand_side_by_side(self):
@@ -232,6 +234,28 @@ class Reports(RunsRead):
                                 ["first", "c", "c/p1", "out of time", "", "", "4", ""]])
         self.assertEqual([it["plan"] for it in rows], ["", str(self.room / "first/answers/c/p1/plan.txt")])
 
+    def test_other_tools_read_the_lines(self):
+        plan = Line("a_b/p1", Result.PLAN, cost=3, seconds=0.5, clock_seconds=0.6, expanded=7, peak_bytes=20_480_000)
+        self.put_run("first", plan, replace(plan, task="a_b/p2", clock_seconds=101.0), Line("c/p1", Result.UNSOLVABLE, seconds=0.1),
+                     Line("c/p2", Result.TIME, seconds=100.0))
+        self.put_run("second&", plan)
+        properties, table = self.room / "properties", self.room / "table.tex"
+        self.report("first", "second&", more=["--properties", str(properties), "--latex", str(table)])
+        name = lambda run, domain, problem: {"algorithm": run, "domain": domain, "problem": problem, "id": [run, domain, problem]}
+        solved = {"coverage": 1, "error": "success", "unsolvable": 0, "cost": 3, "total_time": 0.5, "expansions": 7,
+                  "memory": 20_000}
+        self.assertEqual(json.loads(properties.read_text()), {
+            "first-a_b-p1": {**name("first", "a_b", "p1"), **solved},
+            "first-a_b-p2": {**name("first", "a_b", "p2"), "coverage": 0, "error": "late", "expansions": 7, "memory": 20_000},
+            "first-c-p1": {**name("first", "c", "p1"), "coverage": 1, "error": "success", "unsolvable": 1, "total_time": 0.1},
+            "first-c-p2": {**name("first", "c", "p2"), "coverage": 0, "error": "out-of-time"},
+            "second&-a_b-p1": {**name("second&", "a_b", "p1"), **solved}})
+        self.assertEqual(table.read_text().splitlines(), [
+            r"\begin{tabular}{lrrr}", r"\hline", r"domain & tasks & first & second\& \\", r"\hline", r"a\_b & 2 & 1 & 1 \\",
+            r"c & 2 & 1 &  \\", r"\hline", r"all & 4 & 2 & 1 \\", r"\hline", r"\end{tabular}"])
+        self.assertIn("two tasks would be called first-a_b-p1 among the properties",
+                      self.report("first", "first", more=["--properties", str(properties)]))
+
     def test_points_have_the_hues_of_results(self):
         self.put_run("first", Line("a/p1", Result.PLAN, cost=3, seconds=0.5, states=9), Line("a/p2", Result.TIME, seconds=1.0),
                      Line("a/p3", Result.STATES, bound=5, seconds=1.0, states=90))
@@ -244,6 +268,36 @@ class Reports(RunsRead):
     def test_a_bound_without_a_certificate_is_told_so(self):
         self.put_run("first", Line("a/p1", Result.TIME, seconds=1.0, reached=4))
         self.assertIn("<td>at least 4, without a certificate</td>", self.report("first"))
+
+    def test_an_answer_after_the_limit_is_told_as_late(self):
+        plan = Line("a/p1", Result.PLAN, cost=3, seconds=90.0, clock_seconds=99.0, check=Check(True, "optimal 3", 0.4, 5))
+        late = replace(plan, task="a/p2", clock_seconds=100.5)
+        self.put_run("first", plan, late, Line("a/p3", Result.UNSOLVABLE, seconds=1.0),
+                     Line("a/p4", Result.REFUSED, fault="fault 7"))
+        page = self.report("first")
+        for it in ("2 of 4 answered", "1 more answered late, after more than 100 s by the clock", "<td>plan, late</td>",
+                   "1 refused, which is a fault of the text and no limit",
+                   "<tr><th>domain</th><th>tasks</th><th>answered</th><th>of these unsolvable</th><th>late</th><th>refused</th>"
+                   "<th>accepted</th></tr>",
+                   '<tr class="sum"><td>all</td><td>4</td><td>2</td><td>1</td><td>1</td><td>1</td><td>1</td>',
+                   "first: 1 task had a late answer, after more than 100 s by the clock",
+                   "Of the 2 tasks that the run has answered."):
+            self.assertIn(it, page)
+        self.assertEqual(re.findall("<title>(a: [^<]*)</title>", page)[:4],
+                         ["a: 1 plan", "a: 1 plan, late", "a: 1 unsolvable", "a: 1 refused"])
+        rows = [*csv.DictReader(io.StringIO(as_csv([read_run(str(self.room / "first"))])))]
+        self.assertEqual([it["late"] for it in rows], ["False", "True", "False", ""])
+
+    def test_patterns_choose_which_tasks_are_shown(self):
+        lines = [Line(it, Result.PLAN, cost=3, seconds=0.5) for it in ("a/p1", "a/p2", "b/p1", "c/p1")]
+        self.put_run("first", *lines)
+        self.put("scores.jsonl", "".join(Score("lama", it, "plan", Verdict.OPTIMAL, 3).text() for it in ("a/p2", "b/p1")))
+        page = self.report("first", more=["--filter", "a/*", "--filter", "c/p?", "--scores", str(self.room / "scores.jsonl")])
+        self.assertIn("3 tasks, 2 domains", page)
+        self.assertIn("a/p2</a>", page)
+        self.assertNotIn("b/p1", page)
+        self.assertTrue(self.report("first", more=["--filter", "d/*", "--filter", "p1"]).startswith(
+            "batch-report: no task is called d/* or p1: a name is as gripper/p03"))
 
     def test_a_limit_is_told_with_its_option(self):
         bound = Line("a/p1", Result.STATES, bound=5, seconds=1.0, check=Check(True, "at least 5", 0.4, 5))

@@ -171,8 +171,52 @@ class Verdicts(ScoreRoom):
         self.put("theirs/b/p1.plan", "(go 5)")
         self.write_run()
         self.assertEqual([(it.task, it.told) for it in self.score()[1]],
-                         [("a/p1", "no plan"), ("a/p2", "no plan: the run's answer is that there is none"), ("b/p1", "optimal")])
+                         [("a/p1", "no plan"), ("a/p2", "unsolvable"), ("b/p1", "optimal")])
         self.assertEqual([it.task for it in self.score("--task", "b/*")[1]], ["b/p1"])
+
+    def test_a_planner_has_not_failed_where_no_plan_can_be(self):
+        check = Check(True, "unsolvable", 0.1, 5)
+        self.task("a/p1", "none", result=Result.UNSOLVABLE)
+        self.task("a/p2", result=Result.UNSOLVABLE, check=check)
+        self.task("a/p3", text="refused", result=Result.REFUSED, fault="fault 7")
+        self.task("a/p4", result=Result.UNSOLVABLE)
+        self.task("a/p5", "5")
+        self.put("theirs/a/p5.plan", "(go 5)")
+        self.write_run()
+        ran, scores = self.score()
+        self.assertEqual([it.told for it in scores], [
+            "unsolvable", "unsolvable: by the run's line: its certificate was accepted, and is not kept", "task refused: fault 7",
+            "no plan: there is no certificate; the run's answer is that no plan is there", "optimal"])
+        self.assertRegex(ran.stdout, r"theirs +a +5 +1 +1 +0 +0 +0 +2 +1 +1 ")
+        self.assertEqual((ran.returncode, ran.stderr), (0, ""))
+        self.put("theirs/a/p1.plan", "unsolvable\n")
+        self.assertEqual(self.score()[1][0].told, "unsolvable: line 1: this is an answer without a plan")
+        self.put("theirs/a/p1.plan", "(go 5")
+        self.assertEqual(self.score()[1][0].told, "refused: line 1: this `(` is closed nowhere")
+
+    def test_no_task_is_unsolvable_by_a_certificate_that_is_not_accepted(self):
+        self.task("a/p1", "wrong", result=Result.UNSOLVABLE)
+        self.task("a/p2", "5")
+        self.put("theirs/a/p2.plan", "(go 5)")
+        self.write_run()
+        ran, scores = self.score()
+        self.assertEqual(scores[0].verdict, Verdict.MISSING)
+        self.assertIn("a/p1 of theirs: no plan: the certificate is not accepted: not accepted 51 CutWeak", ran.stderr)
+        self.assertEqual(ran.returncode, 1)
+
+    def test_the_cost_that_a_file_states_is_compared(self):
+        texts = {"(go 5)\n; cost = 5 (unit cost)\n": 5, "; Cost: 5.00\n(go 5)\n": 5, ";; total cost 6.5\n(go 5)\n": 6.5,
+                 "(go 5) ; cost = 7\n": None, "; cost = 4\n(go 5)\n; cost = 7.\n": 7, "(bad)\n; cost = 3\n": 3,
+                 "(go 5)\n; costly = 3\n; cost: 3s\n": None}
+        self.task("a/p1", "5")
+        for number, text in enumerate(texts, 1):
+            self.put(f"theirs/a/p1.plan.{number}", text)
+        self.write_run()
+        ran, scores = self.score()
+        self.assertEqual([it.stated_cost for it in scores], [*texts.values()])
+        self.assertEqual([it.is_misstated for it in scores], [False, False, True, False, True, False, False])
+        self.assertRegex(ran.stderr, r"a/p1 of theirs \(.*p1.plan.3\): costs 5, and its file states 6.5\n")
+        self.assertEqual(ran.returncode, 0)
 
     def test_a_plan_where_none_is_proved_to_be_contradicts(self):
         self.task("a/p1", "none", result=Result.UNSOLVABLE)
@@ -208,15 +252,15 @@ class Verdicts(ScoreRoom):
         self.put("theirs/a/p2.plan", "(spin 5)")
         self.write_run()
         ran, scores = self.score()
-        self.assertEqual([it.told for it in scores], ["failed: the task is refused: fault 7 Unexpected in problem at 0..5",
-                                                      "failed: out of time"])
+        problem = self.room / "tasks/a/p1.pddl"
+        self.assertEqual([it.told for it in scores], [f"task refused: {problem}:1:1: no.", "failed: out of time"])
         self.assertEqual(ran.returncode, 1)
 
     def test_tables_count_the_cheapest_valid_plan(self):
         score = lambda task, verdict, cost=None, bound=4: Score("x", task, "p", verdict, cost=cost, bound=bound)
         scores = [score("a/p1", Verdict.DEARER, 8), score("a/p1", Verdict.OPTIMAL, 4), score("a/p1", Verdict.INVALID),
                   score("a/p2", Verdict.WITHIN, 8), score("a/p3", Verdict.REFUSED), score("a/p4", Verdict.UNKNOWN, 9, None)]
-        self.assertEqual(summary(scores), ["4", "3", "1", "0", "1", "1", "1", "1.50", "6"])
+        self.assertEqual(summary(scores), ["4", "3", "1", "0", "1", "1", "0", "0", "1", "1.50", "6"])
 
 
 class CompetitionFiles(ScoreRoom):
@@ -356,11 +400,12 @@ class Pages(ScoreRoom):
         self.task("a/p1", "5", own="(go 5)\n", cost=5, seconds=0.1, states=3, certificate_bytes=30, certificate_version=3, tables=2,
                   exchanges=1, steps=1, start_value=4)
         self.put("th<eirs/a/p1.plan.1", "(go 4)")
-        self.put("th<eirs/a/p1.plan.2", "(go 7)")
+        self.put("th<eirs/a/p1.plan.2", "(go 7)\n; cost = 9\n")
         self.write_run()
         self.score(plans=("th<eirs",))
         page = self.report("--scores", str(self.room / "scores.jsonl"))
         for it in ("<h2>Other planners</h2>", "a/p1, a plan of th&lt;eirs: contradiction: costs 4, less than the proved bound 5",
+                   "a/p1, a plan of th&lt;eirs: costs 7, and its file states 9",
                    '<a href="th%3Ceirs/a/p1.plan.2">dearer by 2</a>', '<a href="#task-1">a/p1</a>', "version 3, 2 tables, 1 exchange",
                    '<a href="run/answers/a/p1/plan.txt">5</a>', '<a href="run/answers/a/p1/cert.txt">30</a>'):
             self.assertIn(it, page)

@@ -3,23 +3,30 @@
 from __future__ import annotations
 
 import os
+import re
 import tempfile
 from dataclasses import dataclass, replace
 from fractions import Fraction
+from functools import cached_property
 from pathlib import Path
 
 from batching.converting import Converted, plan_into
 from batching.layouts import Task
-from batching.lines import Line, Result
+from batching.lines import Explained, Line, Result
 from batching.runs import Settings, texts_sum
 from batching.scores import Cost, Score, Verdict
 from batching.unit import REFUSED_BY_CHECK, explained_in, fault_of, result_of, told, within_limits
-from plan_forms import NotAPlan, Plan, Step, read_plan
+from plan_forms import Comment, NotAPlan, Plan, Step, read_plan
 from timing import Ended
 
 # Statuses of `validate`.
 VALID, NOT_VALID, REFUSED = 0, 12, 20
 NOT_ACCEPTED = "the certificate is not accepted"
+# How `read_plan` tells that a text is an answer, or a whole log, of a planner that has found none.
+WITHOUT_PLAN = "without a plan"
+BY_LINE = "by the run's line: its certificate was accepted, and is not kept"
+# `; cost = 12 (unit cost)` and `; Cost: 12.0`.
+STATED = re.compile(r";[;\s]*(?:(?:plan|total)[-\s])?cost\s*[:=]?\s*([0-9]{1,18}(?:\.[0-9]{1,9})?)(?!\w|\.\w)", re.IGNORECASE)
 
 
 @dataclass(frozen=True)
@@ -68,6 +75,7 @@ class Judge:
         cert = f"{self.folder}/cert.txt"
         return self.run("check", cert, *words, "--instances", str(self.settings.instances), "--json")
 
+    @cached_property
     def known(self) -> Known:
         """What the certificate shows, with the run's own plan where there is one that is accepted."""
         own = f"{self.folder}/plan.txt"
@@ -101,16 +109,22 @@ class Judge:
 
     def scores(self, plans: list[tuple[str, Path]]) -> list[Score]:
         """What is said of these plans, each by its planner."""
-        known = self.known()
-        found = [self.score(planner, path, known) for planner, path in plans]
+        found = [self.score(planner, path, self.known) for planner, path in plans]
         is_reached = any(it.verdict is Verdict.OPTIMAL for it in found)
         return [reached(it) for it in found] if is_reached else found
 
     def without_plan(self, planner: str) -> Score:
-        """That a planner has none."""
-        is_unsolvable = self.line is not None and self.line.result is Result.UNSOLVABLE
-        why = "the run's answer is that there is none" if is_unsolvable else None
-        return Score(planner=planner, plan=None, verdict=Verdict.MISSING, why=why, **self.keys)
+        """That a planner has none, which is no fault of it where there is none, or the task's text is refused."""
+        verdict, why = Verdict.MISSING, None
+        result = self.line.result if self.line else None
+        if result is Result.REFUSED and self.line.texts == self.keys["texts"]:
+            explained = self.line.explained
+            verdict, why = Verdict.TASK_REFUSED, told_of(explained) if explained else self.line.fault
+        elif result is Result.UNSOLVABLE and self.known.is_unsolvable:
+            verdict, why = Verdict.UNSOLVABLE, BY_LINE if self.known.is_by_line else None
+        elif result is Result.UNSOLVABLE:
+            why = f"{self.known.why or 'the certificate shows something else'}; the run's answer is that no plan is there"
+        return Score(planner=planner, plan=None, verdict=verdict, why=why, **self.keys)
 
     def score(self, planner: str, path: Path, known: Known) -> Score:
         """What is said of one plan."""
@@ -119,10 +133,12 @@ class Judge:
         try:
             plan = read_plan(path.read_bytes())
         except NotAPlan as why:
-            return Score(**keys, verdict=Verdict.REFUSED, why=f"line {why.line}: {why.why}")
+            is_right = known.is_unsolvable and why.why.endswith(WITHOUT_PLAN)
+            verdict = Verdict.UNSOLVABLE if is_right else Verdict.REFUSED
+            return Score(**keys, verdict=verdict, why=f"line {why.line}: {why.why}")
         except OSError as why:
             return Score(**keys, verdict=Verdict.FAILED, why=why.strerror)
-        keys.update(steps=len(plan.steps))
+        keys.update(steps=len(plan.steps), stated_cost=stated_cost(plan))
         with tempfile.TemporaryDirectory(prefix="score.") as room:
             return Score(**{**keys, **self.judged(plan, f"{room}/plan", known)})
 
@@ -154,17 +170,17 @@ class Judge:
         """Why a text is refused: the plan by the line that it had, or the task."""
         found = explained_in(self.run("explain", file).output)
         if found is None or found.file != file:
-            return {"verdict": Verdict.FAILED, "why": f"the task is refused: {fault_of(end)}"}
+            return {"verdict": Verdict.TASK_REFUSED, "why": told_of(found) if found else fault_of(end)}
         line = steps[places[min(found.line, len(places)) - 1] - 1].line if places else 1
         return {"verdict": Verdict.REFUSED, "why": f"line {line}: {found.sentence}"}
 
     def beside(self, known: Known, cost: int, file: str) -> dict:
         """What a valid plan of this cost is, beside what is proved of the task."""
+        why = {"why": BY_LINE} if known.is_by_line else {}
         if known.is_unsolvable:
-            return {"verdict": Verdict.CONTRADICTION}
+            return {"verdict": Verdict.CONTRADICTION, **why}
         if known.bound is None:
             return {"verdict": Verdict.UNKNOWN, "why": known.why}
-        why = {"why": "by the run's line: its certificate was accepted, and is not kept"} if known.is_by_line else {}
         if cost < known.bound:
             return {"verdict": Verdict.CONTRADICTION, **why}
         if cost > known.bound:
@@ -177,6 +193,18 @@ class Judge:
         if end.status == VALID and (answer.get("result"), answer.get("cost")) == ("optimal", cost):
             return {"verdict": Verdict.OPTIMAL, "bound_is_reached": True}
         return {"verdict": Verdict.FAILED, "why": f"the plan is not accepted: {words_of(end, self.settings.seconds)}"}
+
+
+def told_of(refusal: Explained) -> str:
+    """Where a text is at fault, and what is said of that."""
+    return f"{refusal.place}: {refusal.sentence}"
+
+
+def stated_cost(plan: Plan) -> Cost:
+    """What a plan's file states as its cost, by the last such comment; one behind a step is of that step alone."""
+    alone = (it.text for it in plan.parts if isinstance(it, Comment) and not it.is_behind)
+    found = [Fraction(it[1]) for it in map(STATED.match, alone) if it]
+    return None if not found else int(found[-1]) if found[-1].denominator == 1 else float(found[-1])
 
 
 def reached(score: Score) -> Score:

@@ -6,8 +6,9 @@ import os
 import re
 import sys
 from dataclasses import dataclass
+from fnmatch import fnmatchcase
 from pathlib import Path
-from typing import Iterator
+from typing import Iterator, Sequence
 
 
 @dataclass(frozen=True)
@@ -85,6 +86,16 @@ class Folders:
         """The domain of a problem, which may have no ending either."""
         places = ((it.parent, f"{it.name}{ending}") for it in domains_of(problem) for ending in (".pddl", ""))
         return next((self.files_of(folder)[name] for folder, name in places if name in self.files_of(folder)), None)
+
+
+def is_chosen(name: str, patterns: Sequence[str] | None) -> bool:
+    """Whether a task's name is as one of these patterns of a shell; each is, where there is none."""
+    return not patterns or any(fnmatchcase(name, it) for it in patterns)
+
+
+def no_such_tasks(command: str, patterns: Sequence[str]) -> str:
+    """The fault of patterns that choose no task, in this command's name."""
+    return f"{command}: no task is called {' or '.join(patterns)}: a name is as gripper/p03, and 'gripper/*' is all of a folder"
 
 
 def in_order(path: str | Path) -> list[tuple[int, str]]:

@@ -37,6 +37,12 @@ def tasks(count: int) -> str:
     return f"{count:,} task{'' if count == 1 else 's'}"
 
 
+def is_late(settings: Settings, line: Line) -> bool:
+    """Whether an answer came after the limit of seconds, by the clock; by the processor, where the line has no other time."""
+    took = line.seconds if line.clock_seconds is None else line.clock_seconds
+    return line.is_answered and took is not None and took > settings.seconds
+
+
 def limits_of(settings: Settings) -> list[Limit]:
     return [
         Limit(Result.STATES, "--states", f"{settings.states:,} states", MOST, settings.states < MOST),
@@ -47,8 +53,10 @@ def limits_of(settings: Settings) -> list[Limit]:
 
 
 def wider(settings: Settings, run: str, lines: Iterable[Line]) -> list[str]:
-    """A sentence for each limit that some of these lines have met, and one that tells how those tasks are run again."""
-    found = Counter(it.result for it in lines)
+    """A sentence for each limit that some of these lines have met, one that tells how those tasks are run again, and one for late
+    answers."""
+    every = [*lines]
+    found = Counter(it.result for it in every)
     met = [it for it in limits_of(settings) if found[it.result]]
     told = [it.sentence(found[it.result]) for it in met]
     if found[Result.ATOMS]:
@@ -56,4 +64,8 @@ def wider(settings: Settings, run: str, lines: Iterable[Line]) -> list[str]:
     raised = [f"{it.option} N" for it in met if it.can_be_raised]
     if raised:
         told.append(f"these tasks alone are run again with --left-by {run} --into OTHER {' '.join(raised)}")
+    late = sum(is_late(settings, it) for it in every)
+    if late:
+        told.append(f"{tasks(late)} had a late answer, after more than {settings.seconds:,} s by the clock: it is proved as others "
+                    "are, and does not count as answered within the limit")
     return told

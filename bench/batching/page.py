@@ -3,9 +3,10 @@
 from __future__ import annotations
 
 from html import escape
-from typing import Sequence
+from typing import Iterable, Sequence
 
 from batching.findings import limits_met, to_look_at
+from batching.lines import Result
 from batching.links import Links
 from batching.plots import against, answered_over_time, checking_and_solving, of_one, results_by_domain, states_of, time_of
 from batching.reading import Lines, domains_of, tasks_of
@@ -26,6 +27,14 @@ def judged(run: Lines) -> str:
     return f"{len(accepted)} of {len(checks)} certificates accepted" + (f", {bounds} of them of bounds" if bounds else "")
 
 
+def beside(run: Lines) -> Iterable[str]:
+    """How many tasks were answered too late, and how many are refused, which no wider limit changes."""
+    if run.late:
+        yield f"<div>{len(run.late)} more answered late, after more than {run.settings.seconds:,} s by the clock</div>"
+    if run.count(Result.REFUSED):
+        yield f"<div>{run.count(Result.REFUSED)} refused, which is a fault of the text and no limit</div>"
+
+
 def card(run: Lines) -> str:
     """What a run came to, and within which limits."""
     settings, lines = run.settings, run.by_task.values()
@@ -39,8 +48,8 @@ def card(run: Lines) -> str:
     rows.append(f"{solving:,.0f} s of a processor for solving, {checking:,.0f} s for checking")
     rows += [f"on {escape(it)}" for it in run.hosts]
     return (f'<div class="run"><b>{escape(run.name)}</b>'
-            f'<div class="large">{len(run.answered)} of {len(run.by_task)} answered</div><div>{judged(run)}</div>'
-            f'<small>{"<br>".join(rows)}</small></div>')
+            f'<div class="large">{len(run.answered)} of {len(run.by_task)} answered</div>{"".join(beside(run))}'
+            f'<div>{judged(run)}</div><small>{"<br>".join(rows)}</small></div>')
 
 
 def notices(runs: list[Lines]) -> str:

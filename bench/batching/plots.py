@@ -2,8 +2,10 @@
 
 from __future__ import annotations
 
+from collections import Counter
 from dataclasses import dataclass
 from html import escape
+from itertools import product
 from typing import Callable, Optional
 
 from batching.drawing import LETTER, Axes, Scale, drawn, legend, line, logarithmic, mark, shown, text
@@ -40,7 +42,10 @@ def results_by_domain(runs: list[Lines]) -> str:
         parts += counts_below(scale, begin, top, top + len(domains) * ROW)
         parts += (bar(run, domain, scale, begin, top + row * ROW + 3) for row, domain in enumerate(domains))
     found = [it for it in RESULTS if any(run.count(it) for run in runs)]
-    keys = legend((result_class(it), '<rect x="-6" y="-5" width="12" height="10"/>', it.value) for it in found)
+    box = '<rect{} x="-6" y="-5" width="12" height="10"/>'
+    late = [(result_class(it), box.format(' class="late"'), f"{it.value}, late")
+            for it in found if any(line.result is it for run in runs for line in run.late)]
+    keys = legend([*((result_class(it), box.format(""), it.value) for it in found), *late])
     size = left + len(runs) * (BARS + BETWEEN), top + len(domains) * ROW + 44
     return drawn(*size, parts) + keys
 
@@ -55,13 +60,14 @@ def counts_below(scale: Scale, left: float, top: float, bottom: float) -> list[s
 def bar(run: Lines, domain: str, scale: Scale, left: float, top: float) -> str:
     """The results of a domain, one behind the other."""
     parts, begin = [], 0
-    for result in RESULTS:
-        count = run.count(result, domain)
+    found = Counter((it.result, run.is_late(it)) for it in run.by_task.values() if domain_of(it.task) == domain)
+    for result, is_late in product(RESULTS, (False, True)):
+        count = found[result, is_late]
         if count:
             x, width = left + scale.at(begin), scale.at(count)
-            what = escape(f"{domain}: {count} {result.value}")
-            parts.append(f'<rect class="{result_class(result)} bar" x="{x:.1f}" y="{top:.1f}" width="{width:.1f}" '
-                         f'height="{FILLED}"><title>{what}</title></rect>')
+            what = escape(f"{domain}: {count} {result.value}{', late' if is_late else ''}")
+            parts.append(f'<rect class="{result_class(result)} bar{" late" if is_late else ""}" x="{x:.1f}" y="{top:.1f}" '
+                         f'width="{width:.1f}" height="{FILLED}"><title>{what}</title></rect>')
             begin += count
     return "".join(parts)
 

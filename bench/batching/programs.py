@@ -11,6 +11,10 @@ from batching.runs import Program, began_with
 
 # What ./optplan and ./optplan-unproved build.
 PROVED, UNPROVED = "crates/optplan/out/optplan", "out/optplan-unproved"
+# Where an archive of `tools/dist` has the proved program.
+PACKED = "bin/optplan"
+# For the help of commands.
+DEFAULT = f"{PROVED}, and where that is not built {UNPROVED}; in an archive {PACKED}"
 
 
 def count(most: int):
@@ -36,6 +40,8 @@ def program_at(path: str, command: str) -> Program:
 def default_program(run: str, command: str) -> str:
     """The proved program; or the unproved one, which is told in this command's name, where it alone is built or the run began with
     it."""
+    if os.path.isfile(f"{ROOT}/{PACKED}"):
+        return f"{ROOT}/{PACKED}"
     proved, unproved = f"{ROOT}/{PROVED}", f"{ROOT}/{UNPROVED}"
     began_so = began_with(run) == unproved
     if not os.path.isfile(unproved) or os.path.isfile(proved) and not began_so:

@@ -6,9 +6,10 @@ import os
 import sys
 from dataclasses import dataclass
 from itertools import combinations
-from typing import Iterable, Iterator
+from typing import Iterable, Iterator, Sequence
 
-from batching.layouts import in_order
+from batching.layouts import in_order, is_chosen
+from batching.limits import is_late
 from batching.lines import Line, Result, read_lines
 from batching.runs import Settings
 
@@ -28,9 +29,21 @@ class Lines:
         """The file of a task's plan that has the names of the files that were found."""
         return "original-plan.txt" if self.settings.converter else "plan.txt"
 
+    def is_late(self, line: Line) -> bool:
+        return is_late(self.settings, line)
+
+    def is_in_time(self, line: Line) -> bool:
+        """Whether a line is an answer within the limit of seconds."""
+        return line.is_answered and not self.is_late(line)
+
     @property
     def answered(self) -> list[Line]:
-        return [it for it in self.by_task.values() if it.is_answered]
+        """The answers within the limit of seconds."""
+        return [*filter(self.is_in_time, self.by_task.values())]
+
+    @property
+    def late(self) -> list[Line]:
+        return [*filter(self.is_late, self.by_task.values())]
 
     @property
     def accepted(self) -> list[Line]:
@@ -51,8 +64,8 @@ def domain_of(task: str) -> str:
     return task.rpartition("/")[0]
 
 
-def read_run(folder: str) -> Lines:
-    """A run's lines by its folder. Leaves where there is none, or a line is another program's."""
+def read_run(folder: str, patterns: Sequence[str] | None = None) -> Lines:
+    """A run's lines by its folder, of the tasks that patterns choose. Leaves where it is no run, or a line is another program's."""
     try:
         settings = Settings.read(folder)
     except (OSError, ValueError, TypeError, KeyError):
@@ -62,7 +75,7 @@ def read_run(folder: str) -> Lines:
     if others:
         sys.exit(f"batch-report: {folder} has lines of other programs: {', '.join(map(str, others))}")
     folder = os.path.abspath(folder)
-    return Lines(os.path.basename(folder), settings, {it.task: it for it in lines}, folder)
+    return Lines(os.path.basename(folder), settings, {it.task: it for it in lines if is_chosen(it.task, patterns)}, folder)
 
 
 def tasks_of(runs: list[Lines]) -> list[str]:

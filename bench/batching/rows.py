@@ -19,7 +19,7 @@ def columns() -> list[str]:
     found = ["run", "domain"]
     for it in fields(Line):
         found += [f"{it.name}_{key}" for key in INNER[it.name]] if it.name in INNER else [it.name]
-    return [*found, "plan", "certificate"]
+    return [*found, "plan", "certificate", "late"]
 
 
 def row_of(run: Lines, line: Line) -> dict[str, object]:
@@ -31,7 +31,8 @@ def row_of(run: Lines, line: Line) -> dict[str, object]:
     folder = f"{run.folder}/answers/{line.task}"
     files = {"plan": f"{folder}/{run.plan_name}", "certificate": f"{folder}/cert.txt"}
     keys.update({name: path if os.path.isfile(path) else None for name, path in files.items()})
-    return {**keys, "result": line.result.value, "run": run.name, "domain": domain_of(line.task)}
+    late = run.is_late(line) if line.is_answered else None
+    return {**keys, "result": line.result.value, "run": run.name, "domain": domain_of(line.task), "late": late}
 
 
 def as_csv(runs: list[Lines]) -> str:

@@ -10,9 +10,6 @@ from batching.reading import Lines
 from batching.scores import HEADS, Score, Verdict, by_task, rows_by_domain
 from batching.tables import row
 
-# The verdicts of plans that are told one by one.
-TOLD = tuple(it for it in Verdict if it is not Verdict.MISSING)
-
 
 def score_section(scores: list[Score], runs: list[Lines], anchors: dict[str, str], links: Links) -> str:
     """The section of plans of other planners; nothing, where there are none."""
@@ -34,7 +31,7 @@ def all_plans(scores: list[Score], runs: list[Lines], anchors: dict[str, str], l
     """A table with a row for each plan, which leads to its file and its task."""
     known = lambda value: "" if value is None else f"{value:,}"
     lines = [row(["task", "planner", "verdict", "cost", "proved bound", "steps"], "th")]
-    for task, its in by_task(it for it in scores if it.verdict in TOLD).items():
+    for task, its in by_task(it for it in scores if it.plan is not None).items():
         texts = {run.by_task[task].texts for run in runs if task in run.by_task}
         for it in its:
             name = f'<a href="#{anchors[task]}">{escape(task)}</a>' if task in anchors else escape(task)
@@ -46,7 +43,8 @@ def all_plans(scores: list[Score], runs: list[Lines], anchors: dict[str, str], l
 
 
 def score_alarms(scores: list[Score]) -> Iterable[str]:
-    """Plans that contradict a certificate, or of which nothing could be said."""
+    """Plans that contradict a certificate, of which nothing could be said, or whose files state another cost than they have."""
     for it in scores:
-        if it.verdict in (Verdict.CONTRADICTION, Verdict.FAILED):
-            yield f"{escape(it.task)}, a plan of {escape(it.planner)}: {escape(it.told)}"
+        told = [it.told] if it.verdict in (Verdict.CONTRADICTION, Verdict.FAILED) else []
+        for words in [*told, *([it.stated] if it.is_misstated else [])]:
+            yield f"{escape(it.task)}, a plan of {escape(it.planner)}: {escape(words)}"

@@ -29,11 +29,17 @@ class Verdict(str, Enum):
     CONTRADICTION = "contradiction"
     # The planner has no plan for the task.
     MISSING = "no plan"
-    # Nothing was said of the plan: a limit of time or memory, or a task that the program refuses.
+    # Nor can it have one: a certificate that was accepted shows that there is none.
+    UNSOLVABLE = "unsolvable"
+    # The program refuses the text of the task, so that no plan of it is judged.
+    TASK_REFUSED = "task refused"
+    # Nothing was said of the plan: a limit of time or memory.
     FAILED = "failed"
 
 
 VALID = (Verdict.OPTIMAL, Verdict.DEARER, Verdict.WITHIN, Verdict.UNKNOWN, Verdict.CONTRADICTION)
+# Costs that differ by less are the same: many planners write two decimals.
+LEAST_DIFFERENCE = 0.01
 
 
 @dataclass(frozen=True)
@@ -60,10 +66,22 @@ class Score:
     # Sums of the program that judged, and of the texts of domain and problem.
     program: str | None = None
     texts: str | None = None
+    # What the plan's file says in a comment that the plan costs.
+    stated_cost: Cost = None
 
     @property
     def is_valid(self) -> bool:
         return self.verdict in VALID
+
+    @property
+    def is_misstated(self) -> bool:
+        """Whether the plan's file states another cost than the plan has."""
+        return None not in (self.cost, self.stated_cost) and abs(self.cost - self.stated_cost) >= LEAST_DIFFERENCE
+
+    @property
+    def stated(self) -> str:
+        """What there is to say where the plan's file states another cost."""
+        return f"costs {self.cost:,}, and its file states {self.stated_cost:,}"
 
     @property
     def told(self) -> str:
@@ -132,15 +150,18 @@ def planners_of(scores: Iterable[Score]) -> list[str]:
 
 
 # The columns of the table by planner and domain.
-HEADS = ("tasks", "solved", "optimal", "dearer", "within", "unknown", "not solved", "quality", "plans")
+HEADS = ("tasks", "solved", "optimal", "dearer", "within", "unknown", "unsolvable", "task refused", "not solved", "quality",
+         "plans")
+# The verdicts that are no fault of a planner without a valid plan.
+NO_FAULT = (Verdict.UNSOLVABLE, Verdict.TASK_REFUSED)
 
 
 def summary(scores: list[Score]) -> list[str]:
     """What the columns have of one planner's plans for some tasks: of each task its cheapest valid plan counts."""
     best = [best_of(it) for it in by_task(scores).values()]
     count = lambda *verdicts: sum(it.verdict in verdicts for it in best)
-    numbers = [len(best), count(*VALID), count(Verdict.OPTIMAL), count(Verdict.DEARER), count(Verdict.WITHIN), count(Verdict.UNKNOWN),
-               len(best) - count(*VALID)]
+    each = (Verdict.OPTIMAL, Verdict.DEARER, Verdict.WITHIN, Verdict.UNKNOWN, *NO_FAULT)
+    numbers = [len(best), count(*VALID), *map(count, each), len(best) - count(*VALID, *NO_FAULT)]
     return [*map(str, numbers), f"{sum(it.quality for it in best):.2f}", str(sum(it.plan is not None for it in scores))]
 
 

@@ -8,15 +8,14 @@ import sys
 from concurrent.futures import ProcessPoolExecutor
 from concurrent.futures.process import BrokenProcessPool
 from dataclasses import replace
-from fnmatch import fnmatchcase
 from multiprocessing import active_children
 from pathlib import Path
 
 from batching.judging import NOT_ACCEPTED, Judge
-from batching.layouts import Task
+from batching.layouts import Task, is_chosen, no_such_tasks
 from batching.lines import Line, read_lines
 from batching.plan_files import plans_in
-from batching.programs import PROVED, UNPROVED, count, default_program, program_at
+from batching.programs import DEFAULT, count, default_program, program_at
 from batching.runs import Settings, put, read_tasks
 from batching.scores import Score, Verdict, plans_text, summary_text
 from batching.unit import end_with_parent, has_changed
@@ -32,9 +31,9 @@ def arguments(usage: str, given: list[str]) -> argparse.Namespace:
     words.add_argument("plans", nargs="+", metavar="PLANS", help="a folder with the plans of a planner, or NAME=FOLDER")
     words.add_argument("--into", metavar="FILE", help="write a line of JSON for each plan; bench/batch-report --scores takes them")
     words.add_argument("--each", action="store_true", help="print a line for each plan, too")
-    words.add_argument("--task", action="append", metavar="PATTERN", help="only the tasks with such names, as 'gripper/*'")
-    words.add_argument("--program", help=f"the program that judges (the run's checker; else {PROVED}, and where that is not built "
-                                         f"{UNPROVED})")
+    words.add_argument("--filter", "--task", dest="task", action="append", metavar="PATTERN",
+                       help="only the tasks with such names, as 'gripper/*'; may be given more than once")
+    words.add_argument("--program", help=f"the program that judges (the run's checker; else {DEFAULT})")
     words.add_argument("--seconds", type=count(10**8), default=300, help="of the processor, for each process (%(default)s)")
     words.add_argument("--memory", type=count(10**8), default=2000, metavar="MB", help="for each process (%(default)s)")
     words.add_argument("--lanes", type=count(10**4), help="how many run at a time (as processors and memory allow)")
@@ -98,7 +97,9 @@ def tasks_in(run: str) -> list[Task]:
 def scores_of(words: argparse.Namespace, settings: Settings) -> list[Score]:
     """The scores of all plans, planner by planner."""
     run = os.path.abspath(words.run)
-    tasks = [it for it in tasks_in(run) if not words.task or any(fnmatchcase(it.name, pattern) for pattern in words.task)]
+    tasks = [it for it in tasks_in(run) if is_chosen(it.name, words.task)]
+    if words.task and not tasks:
+        sys.exit(no_such_tasks("score", words.task))
     planners = [planner_of(it)[0] for it in words.plans]
     if len({*planners}) < len(planners):
         sys.exit(f"score: two planners would be called {next(it for it in planners if planners.count(it) > 1)}: name one NAME=FOLDER")
@@ -122,11 +123,16 @@ def scores_of(words: argparse.Namespace, settings: Settings) -> list[Score]:
     return sorted(scores, key=lambda it: planners.index(it.planner))
 
 
+def place_of(score: Score) -> str:
+    """Which plan of which planner it is, with its file."""
+    return f"{score.task} of {score.planner}" + (f" ({score.plan})" if score.plan else "")
+
+
 def alarms(scores: list[Score]) -> list[str]:
-    """What somebody should look at."""
-    at = lambda it: f"{it.task} of {it.planner}" + (f" ({it.plan})" if it.plan else "")
-    is_one = lambda it: it.verdict in (Verdict.CONTRADICTION, Verdict.FAILED) or (it.why or "").startswith(NOT_ACCEPTED)
-    return [f"{at(it)}: {it.told}" for it in scores if is_one(it)]
+    """What somebody should look at, since it is no verdict or contradicts one."""
+    is_not_judged = lambda it: it.verdict is Verdict.FAILED or it.verdict is Verdict.TASK_REFUSED and it.plan
+    is_one = lambda it: it.verdict is Verdict.CONTRADICTION or is_not_judged(it) or (it.why or "").startswith(NOT_ACCEPTED)
+    return [f"{place_of(it)}: {it.told}" for it in scores if is_one(it)]
 
 
 def main(usage: str, given: list[str]) -> None:
@@ -145,6 +151,6 @@ def main(usage: str, given: list[str]) -> None:
     if settings.program.is_unproved:
         print("score: the program that judged was built without a proof, so that no proof vouches for this", file=sys.stderr)
     told = alarms(scores)
-    for it in told:
+    for it in [*told, *(f"{place_of(it)}: {it.stated}" for it in scores if it.is_misstated)]:
         print(f"score: {it}", file=sys.stderr)
     sys.exit(1 if told else 0)

@@ -43,7 +43,8 @@ figcaption { font-weight: 600; margin: .8rem 0 .3rem; }
 .curve { stroke: currentColor; stroke-width: 2; stroke-linejoin: round; } .dashed { stroke-dasharray: 5 3; }
 .plot .marks path { fill: currentColor; fill-opacity: .85; } .plot a:hover path { stroke: var(--ink); stroke-width: 1.5; }
 .plot .marks path.hollow, .key path.hollow { fill: var(--paper); stroke: currentColor; stroke-width: 1.5; }
-.bar, .key rect { fill: currentColor; } .bar { stroke: var(--paper); } .key path:not(.hollow) { fill: currentColor; }
+.bar, .key rect { fill: currentColor; } .bar { stroke: var(--paper); } .plot .late, .key .late { fill-opacity: .45; }
+.key path:not(.hollow) { fill: currentColor; }
 .legend { list-style: none; display: flex; flex-wrap: wrap; gap: .1rem 1.1rem; margin: .3rem 0 0; padding: 0; font-size: .8rem;
   max-width: 34rem; }
 .key { vertical-align: -1px; margin-right: .3rem; }

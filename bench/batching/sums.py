@@ -46,8 +46,8 @@ def geometric_mean(values: list[float], floor: float) -> float:
 
 
 def answered_by_all(runs: list[Lines]) -> list[str]:
-    """The tasks that all runs have answered, in the order of their names."""
-    return [it for it in shared_by_all(runs) if all(run.by_task[it].is_answered for run in runs)]
+    """The tasks that all runs have answered within their limits, in the order of their names."""
+    return [it for it in shared_by_all(runs) if all(run.is_in_time(run.by_task[it]) for run in runs)]
 
 
 def cells_of(lines: list[Line], measure: Measure) -> list[str]:

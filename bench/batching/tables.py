@@ -4,7 +4,7 @@ from __future__ import annotations
 
 import os
 from html import escape
-from typing import Iterable
+from typing import Callable, Iterable
 
 from batching.lines import ANSWERS, Line, Result
 from batching.links import Links
@@ -15,11 +15,19 @@ def row(cells: Iterable[object], kind: str = "td", attributes: str = "") -> str:
     return f"<tr{attributes}>" + "".join(f"<{kind}>{it}</{kind}>" for it in cells) + "</tr>"
 
 
+def kinds_of_answers(runs: list[Lines]) -> dict[str, Callable[[Lines], list[Line]]]:
+    """What is told apart of the answers, where there is any: which are proofs that there is no plan, and which came late."""
+    kinds = {"of these unsolvable": lambda run: [it for it in run.answered if it.result is Result.UNSOLVABLE],
+             "late": lambda run: run.late}
+    return {name: kind for name, kind in kinds.items() if any(map(kind, runs))}
+
+
 def by_domain(runs: list[Lines]) -> str:
     """A table of how many tasks of each domain had which result."""
     domains = domains_of(tasks_of(runs))
     results = [it for it in Result if it not in ANSWERS and any(run.count(it) for run in runs)]
-    heads = ["answered", *(it.value for it in results), "accepted"]
+    kinds = kinds_of_answers(runs)
+    heads = ["answered", *kinds, *(it.value for it in results), "accepted"]
     group = "".join(f'<th colspan="{len(heads)}">{escape(run.name)}</th>' for run in runs)
     lines = [f'<tr class="group"><th></th><th></th>{group}</tr>', row(["domain", "tasks", *heads * len(runs)], "th")]
     for domain in [*domains, None]:
@@ -29,6 +37,7 @@ def by_domain(runs: list[Lines]) -> str:
             is_here = lambda it: domain in (None, domain_of(it.task))
             has_any = any(map(is_here, run.by_task.values()))
             cells.append(sum(map(is_here, run.answered)) if has_any else "")
+            cells += [sum(map(is_here, kind(run))) or "" for kind in kinds.values()]
             cells += [run.count(it, domain) or "" for it in results]
             cells.append(sum(map(is_here, run.accepted)) if has_any and run.settings.checker else "")
         lines.append(row(cells, attributes=' class="sum"' if domain is None else ""))
@@ -65,7 +74,7 @@ def cells_of(run: Lines, line: Line | None, links: Links) -> list[object]:
     known = lambda value, form: "" if value is None else format(value, form)
     verdict = "" if line.check is None else "accepted" if line.check.accepted else f"not accepted: {escape(line.check.verdict)}"
     memory = None if line.peak_bytes is None else line.peak_bytes / 1e6
-    where = f", {escape(os.path.basename(line.explained.place))}" if line.explained else ""
+    where = f", {escape(os.path.basename(line.explained.place))}" if line.explained else ", late" if run.is_late(line) else ""
     return [line.result.value + where, links.to_plan(run, line, cost_of(line)), known(line.steps, ","), known(line.start_value, ","),
             known(line.seconds, ",.2f"), known(line.clock_seconds, ",.2f"), known(memory, ",.0f"), known(line.instances, ","),
             known(line.atoms, ","), known(line.states, ","), known(line.expanded, ","),
