@@ -17,7 +17,7 @@ use crate::kept::kept_instances;
 use crate::numbers::{NumberedLiteral, number_of, numbered};
 use crate::statics::Statics;
 use faults::NoMemory;
-use formulas::{Binding, Change, Instance, Literal, sure};
+use formulas::{Binding, Change, Instance, Literal};
 use indexmap::IndexSet;
 use std::alloc::Global;
 use task::{Atom, Formula, PredicateId, Task};
@@ -198,21 +198,6 @@ impl<'t> Numbering<'t> {
         ensures { result ≡ statically_false.is_statically_false (task_in self.now) (formula_of formula.now) (map object_of binding.now.items) }
     {
         self.statics.is_statically_false(formula, binding)
-    }
-
-    /// The sure literals of the formula, under this binding, that are of numbered atoms, in order. The formula is well-typed for
-    /// variables of some types that the objects are of.
-    pub fn numbered_literals(
-        &self,
-        alloc: Global,
-        formula: &Formula,
-        binding: &Binding,
-    ) -> Result<Vec<NumberedLiteral>, NoMemory>
-        requires { FitsFormula (task_in self.now) (formula_of formula.now) (map object_of binding.now.items) }
-        ensures { IfOk result (λ found. map numbered_of found.items ≡ model_literals.numbered_literals (task_in self.now) (atoms_in self.now) (formula_of formula.now) (map object_of binding.now.items)) }
-    {
-        let literals = sure(alloc, self.statics.task, formula, binding)?;
-        self.numbered(alloc, literals.as_slice())
     }
 
     /// The literals that are of numbered atoms, in order.

@@ -2,7 +2,6 @@
 #![tactic(auto)]
 
 mod breaking;
-mod charging;
 mod counters;
 mod cut_index;
 mod laws;
@@ -11,7 +10,6 @@ mod testing;
 mod values;
 
 pub use breaking::may_break;
-pub use charging::charges;
 pub use cut_index::CutIndex;
 pub use laws::kept_landmarks_are_sorted;
 pub use testing::Fairness;
