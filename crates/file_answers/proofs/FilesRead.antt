@@ -1,6 +1,6 @@
 -- From texts to their task: the fault of two texts, and that there is none for two texts that are a task.
 use Rattle.std.proofs.Common.{◌≡◌, ℕ, List, Option, Some, None, IfSome, sym, refl, ap, ◌∙◌, subst}
-use Rattle.std.specs.Prelude.{Result, Ok, Err, IfErr}
+use Rattle.std.specs.Prelude.{Result, Ok, Err, IfErr, Contains}
 use Rattle.std.specs.Option.{option_map}
 use Rattle.model.specs.Fault.{Fault}
 use Rattle.model.specs.Words.{Word, ReadsAs, IsReported}
@@ -10,9 +10,8 @@ use Rattle.model.specs.GrammarWords.{tokens_of}
 use Rattle.model.specs.Refusals.{IsWhole, IsRefused}
 use Rattle.model.specs.Grammar as tree
 use Rattle.model.specs.Task.{Task, Instance}
-use Rattle.model.specs.Typing.{task_of_trees}
-use Rattle.model.specs.TypingFaults.{IsWellTyped}
-use Rattle.model.proofs.TypingFaultsReported.{one_reported}
+use Rattle.model.specs.Typing.{IsWellTyped, task_of_trees}
+use Rattle.model.proofs.ListLemmas.{Contains-none}
 use Rattle.model.specs.PlanText.{IsPlanText, IsPlanFault}
 use Rattle.model.specs.Files.{of_task, the_plan, FileFault, IsDomainText, IsProblemText, IsTextFault, of_words, of_tree, IsTaskOf, IsTaskFault, in_the_domain, in_the_problem, in_the_pair, IsFileFault, in_the_task, in_the_plan, AreRead}
 use Rattle.model.proofs.GrammarMeaning.{one_domain, one_problem}
@@ -83,10 +82,11 @@ module _ (domain problem : List ℕ) where
       text_not_refused domain_file domain h.domain_reads.words reported.fault h.domain_reads.reads (tree.domain_tree h.domain_tree, h.domain_reads.tree) fault
   no_task_fault task reported h (in_the_problem d reads fault file) =
       text_not_refused problem_file problem h.problem_reads.words reported.fault h.problem_reads.reads (tree.problem_tree h.problem_tree, h.problem_reads.tree) fault
-  no_task_fault task reported h (in_the_pair d p typed d_reads p_reads least reports) =
+  no_task_fault task reported h (in_the_pair d p typed d_reads p_reads reports_first reports) =
       let same_domain = domain_of_text domain d h.domain_tree d_reads h.domain_reads in
       let same_problem = problem_of_text problem p h.problem_tree p_reads h.problem_reads in
-      one_reported d p typed (subst (λ e. IsWellTyped e p) (sym same_domain) (subst (IsWellTyped h.domain_tree) (sym same_problem) h.well_typed)) least
+      let well_typed = subst (λ e. IsWellTyped e p) (sym same_domain) (subst (IsWellTyped h.domain_tree) (sym same_problem) h.well_typed) in
+      Contains-none typed (subst (λ faults. Contains faults typed) well_typed reports_first.is_fault)
 
   no_file_fault : (plan : List ℕ) (task : Task) (steps : List Instance) (reported : FileFault) → AreRead domain problem plan task steps → IsFileFault domain problem plan reported → ⊥
   no_file_fault plan task steps reported h (in_the_task fault) = no_task_fault task reported h.is_task fault

@@ -4,7 +4,7 @@ use Rattle.std.specs.String.{string_bytes}
 use Rattle.explain_faults.specs.Explained.{BeginsWith, IsHeading}
 use Rattle.explain_hints.specs.Refusals.{FileRefusal}
 use Rattle.explain_hints.specs.Files.{name_in, text_in}
-use Rattle.typing.specs.Listed.{IsFaultOf}
+use Rattle.model.specs.Typing.{IsFaultOf}
 use Rattle.explain_hints.specs.Places.{IsPlace}
 use Rattle.explain_hints.specs.declared.place.LineColumn.{LineColumn}
 use Rattle.explain_hints.specs.declared.texts.NamedTexts.{NamedTexts}

@@ -31,12 +31,7 @@ pub mod GrammarNames
 pub mod GrammarExampleProofs
 pub mod TypingExampleProofs
 pub mod TypeDescent
-pub mod TypingFaultsLemmas
-pub mod TypingFaultsRepeats
-pub mod TypingFaultsVariables
-pub mod TypingFaultsUses
-pub mod TypingFaultsPhases
-pub mod TypingFaultsReported
+pub mod TypingLemmas
 pub mod PlanExampleProofs
 pub mod PlanWritingLemmas
 pub mod PlanWritingExampleProofs

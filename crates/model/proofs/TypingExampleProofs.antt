@@ -6,12 +6,8 @@ use Rattle.std.proofs.lemmas.Bool.{and_parts}
 use Rattle.model.specs.Meaning.{holds}
 use Rattle.model.specs.Trees.{Domain, Problem}
 use Rattle.model.specs.Typing.{TypingFault, is_before, faults_of}
-use Rattle.model.specs.TypingFaults.{Phase, IsFaultIn, IsWellTyped, IsReported}
-use Rattle.model.specs.TypingExamples.{fleet_task, IsOneOf, HasFaults, AreTyped}
-use Rattle.model.proofs.ListLemmas.{Contains-here, Contains-there}
-use Rattle.model.proofs.TypingFaultsLemmas.{fault_at, Reports}
-use Rattle.model.proofs.TypingFaultsPhases.{phase_reports, phase_listed}
-use Rattle.model.proofs.TypingFaultsReported.{well_typed, reported, listed}
+use Rattle.model.specs.TypingExamples.{fleet_task, HasFaults, AreTyped}
+use Rattle.model.proofs.ListLemmas.{Contains-here}
 
 or_false : (b : Bool) → (b || false) ≡ b
 or_false true = refl
@@ -21,7 +17,7 @@ and_true : (b : Bool) → (b && true) ≡ b
 and_true true = refl
 and_true false = refl
 
--- ---- if the lists of faults compute, the table agrees
+-- ---- the least of some faults
 
 -- no fault of these is before this one
 none_before : (first : TypingFault) (faults : List TypingFault) → list_all (λ g. not (is_before g first)) faults ≡ true → All (λ g. is_before g first ≡ false) faults
@@ -33,31 +29,19 @@ none_before first (x ∷ rest) passes zero g below = by (is_before x first) (and
     by false passes = refl
 none_before first (x ∷ rest) passes (suc k) g below = none_before first rest (and_parts (not (is_before x first)) _ passes).1 k g (omega (arith, below))
 
-without_faults : {d : Domain} {p : Problem} → faults_of d p ≡ [] → IsWellTyped d p
-without_faults {d} {p} none = well_typed d p none
-
 refused : {d : Domain} {p : Problem} {first : TypingFault} {others : List TypingFault} → faults_of d p ≡ first ∷ others → list_all (λ g. not (is_before g first)) (first ∷ others) ≡ true
     → HasFaults d p first others
-refused {d} {p} {first} {others} is least = by (reported d p first (record {
-  is_fault = subst (λ l. Contains l first) (sym is) (Contains-here first others);
-  is_least = subst (All (λ g. is_before g first ≡ false)) (sym is) (none_before first (first ∷ others) least);
-}))
-  where
-    one : (phase : Phase) (f : TypingFault) → Reports (IsFaultIn d p phase) f → IsOneOf d p phase f
-    one phase f reports = record { code = reports.code; word = reports.word; is_fault = reports.is_fault; is = reports.is }
-
-    by : IsReported d p first → HasFaults d p first others
-    by is_reported =
-        let same = sym is ∙ listed d p first is_reported in
-        record {
-          reported = is_reported;
-          each = λ f at. one is_reported.phase f ((phase_reports d p is_reported.phase).reports f (subst (λ l. Contains l f) same (Contains-there first others f at)));
-          no_more = λ code w fault. subst (λ l. Contains l (fault_at code w)) (sym same) (phase_listed d p is_reported.phase code w fault);
-        }
+refused {first = first} {others = others} is least = record {
+  reported = record {
+    is_fault = subst (λ l. Contains l first) (sym is) (Contains-here first others);
+    is_least = subst (All (λ g. is_before g first ≡ false)) (sym is) (none_before first (first ∷ others) least);
+  };
+  are_listed = is;
+}
 
 pub are_typed : AreTyped
 are_typed = record {
-  no_fault = without_faults refl;
+  no_fault = refl;
   its_task = refl;
   type_again = refused refl refl;
   unknown_parent = refused refl refl;
@@ -66,7 +50,7 @@ are_typed = record {
   object_again = refused refl refl;
   supertype = refused refl refl;
   one_of_two = refused refl refl;
-  both_fit = without_faults refl;
+  both_fit = refl;
   unknown_type = refused refl refl;
   object_in_action = refused refl refl;
   wrong_fact = refused refl refl;
@@ -81,19 +65,19 @@ are_typed = record {
   forall_says = refl;
   under_forall = refl;
   under_and = refl;
-  in_scope = without_faults refl;
+  in_scope = refl;
   of_the_root = refused refl refl;
   out_of_scope = refused refl refl;
   of_unknown_type = refused refl refl;
   twice_in_a_list = refused refl refl;
   as_a_parameter = refused refl refl;
   as_one_around = refused refl refl;
-  as_one_before = without_faults refl;
-  sixteen = without_faults refl;
+  as_one_before = refl;
+  sixteen = refl;
   seventeen = refused refl refl;
-  of_two_types = without_faults refl;
+  of_two_types = refl;
   unknown_terms = refused refl refl;
-  in_its_part = without_faults refl;
+  in_its_part = refl;
   of_another_type = refused refl refl;
   after_its_part = refused refl refl;
   of_a_type_unknown = refused refl refl;
@@ -104,26 +88,26 @@ are_typed = record {
   under_a_condition = refused refl refl;
   cost_declared_again = refused refl refl;
   metric_of_nothing = refused refl refl;
-  metric_of_the_cost = without_faults refl;
+  metric_of_the_cost = refl;
   before_the_actions = refused refl refl;
   increase_of_nothing = refused refl refl;
   increases_again = refused refl refl;
-  starts_at_nothing = without_faults refl;
+  starts_at_nothing = refl;
   starts_at_one = refused refl refl;
   starts_again = refused refl refl;
   start_of_nothing = refused refl refl;
   start_of_nothing_at_one = refused refl refl;
   its_effect = refl;
-  without_fault = without_faults refl;
+  without_fault = refl;
   its_cost = refl;
   has_its_metric = refl;
   has_no_metric = refl;
   function_again = refused refl refl;
   function_of_an_unknown_type = refused refl refl;
-  eight_arguments = without_faults refl;
+  eight_arguments = refl;
   nine_arguments = refused refl refl;
-  named_alike = without_faults refl;
-  by_a_length = without_faults refl;
+  named_alike = refl;
+  by_a_length = refl;
   by_an_unknown = refused refl refl;
   by_another_count = refused refl refl;
   by_another_type = refused refl refl;
@@ -131,13 +115,13 @@ are_typed = record {
   by_a_length_alone = refused refl refl;
   by_a_second = refused refl refl;
   as_a_predicate = refused refl refl;
-  values_given = without_faults refl;
+  values_given = refl;
   value_of_nothing = refused refl refl;
   value_of_a_predicate = refused refl refl;
   value_of_another_count = refused refl refl;
   value_of_another_type = refused refl refl;
   value_of_an_unknown = refused refl refl;
-  given_again = without_faults refl;
+  given_again = refl;
   given_another = refused refl refl;
   given_to_an_unknown = refused refl refl;
   its_functions = refl;

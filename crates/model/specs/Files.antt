@@ -11,8 +11,8 @@ use Rattle.model.specs.GrammarWords.{tokens_of}
 use Rattle.model.specs.Refusals.{IsRefused}
 use Rattle.model.specs.Task.{Task, Instance}
 use Rattle.model.specs.Resolution.{TypingFault, task_of_trees}
-use Rattle.model.specs.TypingFaults as typing_faults
-use Rattle.model.specs.TypingFaults.{IsWellTyped}
+use Rattle.model.specs.Typing as typing
+use Rattle.model.specs.Typing.{IsWellTyped}
 use Rattle.model.specs.Runs.{Verdict, IsVerdict}
 use Rattle.model.specs.Meaning.{system_of}
 use Rattle.model.specs.PlanText.{IsPlanText, IsPlanFault}
@@ -65,7 +65,7 @@ pub data IsTaskFault (domain problem : List ℕ) (reported : FileFault) : Type 0
   in_the_problem : (d : Domain) → IsDomainText domain d → IsTextFault problem_file problem reported.fault → reported.file ≡ of_task problem_file
       → IsTaskFault domain problem reported
   in_the_pair : (d : Domain) (p : Problem) (typed : TypingFault) → IsDomainText domain d → IsProblemText problem p
-      → typing_faults.IsReported d p typed → IsReportedTyping typed reported → IsTaskFault domain problem reported
+      → typing.IsReported d p typed → IsReportedTyping typed reported → IsTaskFault domain problem reported
 
 -- the fault reported for three texts that are not a task and a plan for it: the first fault in the order of files
 pub data IsFileFault (domain problem plan : List ℕ) (reported : FileFault) : Type 0 where

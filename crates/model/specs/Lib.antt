@@ -11,7 +11,6 @@ pub mod Limits
 pub mod WellTyped
 pub mod Resolution
 pub mod Typing
-pub mod TypingFaults
 pub mod TypingExamples
 pub mod Runs
 pub mod Meaning

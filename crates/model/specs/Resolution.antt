@@ -1,6 +1,6 @@
 -- Name resolution for a domain and a problem: which names are equal, what typed lists declare, the types and their supertypes,
 -- which names are visible where, and the task of the pair. The rules are those for types, declarations and uses (PDDL 1.2 manual,
--- "Domains", "Actions", "Goal descriptions", "Effects", "Problems"). `TypingFaults` defines the faults of a pair on this basis.
+-- "Domains", "Actions", "Goal descriptions", "Effects", "Problems"). `Typing` defines the faults of a pair on this basis.
 use Rattle.std.specs.Prelude.{◌≡◌, ℕ, zero, suc, ◌+◌, Bool, true, ◌&&◌, ◌==◌, nat_eq, nat_le, List, [], ◌∷◌, ◌++◌, codes, length, map, fold, slice_get, slice_index, is_some, if◌then◌else◌, Option, Some}
 use Rattle.std.specs.Char.{to_ascii_lowercase}
 use Rattle.std.specs.Cmp.Lexicographic.{pointwise}

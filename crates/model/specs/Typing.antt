@@ -1,8 +1,8 @@
--- The faults of a domain and a problem as lists: those of each phase, in the order in which a walk over the trees meets them, and
--- the least of them. The code's walks are compared to these lists. No clause of the contracts that `typing` offers its callers
--- cites them, nor do the worked examples: the faults of a pair are defined by the table, `TypingFaults`, and
--- `proofs/TypingFaultsReported` proves that the lists agree with it.
-use Rattle.std.specs.Prelude.{◌≡◌, ℕ, ◌+◌, ◌-◌, Bool, true, false, not, ◌==◌, nat_le, List, [], ◌∷◌, ◌++◌, codes, length, map, filter, take, drop, slice_get, if◌then◌else◌, Option, None, Some, All, Contains}
+-- The faults of a domain and a problem, and which one is reported: the rules for types, declarations and uses (PDDL 1.2 manual,
+-- "Domains", "Actions", "Goal descriptions", "Effects", "Problems"; action costs, 2008), with the limits of the language profile.
+-- Each phase has a list of its faults. The first phase that has a fault reports it, since later phases depend on the declarations of
+-- earlier ones.
+use Rattle.std.specs.Prelude.{◌≡◌, ℕ, ◌+◌, ◌-◌, ◌<◌, ◌↔◌, Bool, true, false, not, ◌==◌, nat_le, List, [], ◌∷◌, ◌++◌, codes, length, map, filter, take, drop, slice_get, if◌then◌else◌, Option, None, Some, All, Contains}
 use Rattle.std.specs.Cmp.Lexicographic.{slice_cmp}
 use Rattle.std.specs.List.{flat_map, list_any}
 use Rattle.std.specs.Option.{option_map_or}
@@ -271,9 +271,13 @@ first_filled ((f ∷ more) ∷ later) = f ∷ more
 abbrev pub faults_of : Domain → Problem → List TypingFault
 faults_of d p = first_filled (phases d p)
 
--- no fault is listed
-abbrev pub ListsNoFault : Domain → Problem → Type 0
-ListsNoFault d p = faults_of d p ≡ []
+-- no phase has a fault
+abbrev pub IsWellTyped : Domain → Problem → Type 0
+IsWellTyped d p = faults_of d p ≡ []
+
+-- the fault is one of the pair: one of some phase, be it the first phase that has any or a later one
+abbrev pub IsFaultOf : Domain → Problem → TypingFault → Type 0
+IsFaultOf d p f = (faults : List TypingFault) × Contains (phases d p) faults × Contains faults f
 
 -- ---- which fault is reported
 
@@ -288,3 +292,21 @@ is_before f g = is_lt (slice_cmp nat_cmp (key_of f) (key_of g))
 pub record IsLeastOf (faults : List TypingFault) (f : TypingFault) : Type 0 where
   pub is_fault : Contains faults f
   pub is_least : All (λ g. is_before g f ≡ false) faults
+
+-- the fault is reported for the pair: it belongs to the first phase that has any, and none of that phase comes before it
+abbrev pub IsReported : Domain → Problem → TypingFault → Type 0
+IsReported d p f = IsLeastOf (faults_of d p) f
+
+-- ---- types and their ancestors
+
+-- in a well-typed pair, the supertypes of a type are exactly its ancestors, itself included
+abbrev pub SupertypesAreThoseAbove : Type 0
+SupertypesAreThoseAbove =
+    (d : Domain) (p : Problem) → IsWellTyped d p → (number : ℕ) (t : task.ObjectType) → slice_get (types_of d) number ≡ Some t
+    → (above : ℕ) → Contains t.supertypes above ↔ Descends (parents_of d) number above
+
+-- the types that are refused as their own ancestors are exactly those that descend from themselves; the first declared one is 1
+abbrev pub CyclesAreOfAncestors : Type 0
+CyclesAreOfAncestors =
+    (d : Domain) (number : ℕ) → 0 < number → number < length (parents_of d)
+    → (comes_back (parents_of d) number ≡ true) ↔ DescendsFromItself (parents_of d) number

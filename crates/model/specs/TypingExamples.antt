@@ -9,7 +9,7 @@ use Rattle.model.specs.Meaning.{State, holds, changes_of_instance}
 use Rattle.model.specs.SureLiterals.{Literal, is_true, sure}
 use Rattle.model.specs.StaticallyFalse.{is_unconditional}
 use Rattle.model.specs.Resolution.{TypingFault, Placed, exists_over, forall_over, task_of_trees}
-use Rattle.model.specs.TypingFaults.{Phase, IsFaultIn, IsWellTyped, IsReported}
+use Rattle.model.specs.Typing.{IsWellTyped, IsReported, faults_of}
 
 -- a name at this offset
 abbrev pub at : ℕ → List ℕ → Name
@@ -25,10 +25,6 @@ untyped names = group names [] ∷ []
 -- the word at this offset is refused with this number
 abbrev pub fault : TaskFile → ℕ → ℕ → TypingFault
 fault file code start = record { file = file; fault = record { code = code; span = record { start = start; end = start + 1 } } }
-
--- the fault that refuses the word with the number
-abbrev pub refusal : ℕ → Placed → TypingFault
-refusal code w = record { file = w.file; fault = record { code = code; span = w.word.span } }
 
 abbrev pub atom : Name → List Term → Atom
 atom predicate terms = record { predicate = predicate; terms = terms }
@@ -216,18 +212,10 @@ of_two_variables =
     ∷ p_of 60 (variable 61 (codes "?y")) ∷ []
     ))
 
--- the fault belongs to this phase
-pub record IsOneOf (d : Domain) (p : Problem) (phase : Phase) (f : TypingFault) : Type 0 where
-  pub code : ℕ
-  pub word : Placed
-  pub is_fault : IsFaultIn d p phase code word
-  pub is : refusal code word ≡ f
-
--- the first fault is reported for the pair; its phase has exactly the others besides
+-- the first fault is reported for the pair; its phase has exactly the others besides, in this order
 pub record HasFaults (d : Domain) (p : Problem) (first : TypingFault) (others : List TypingFault) : Type 0 where
   pub reported : IsReported d p first
-  pub each : (f : TypingFault) → Contains others f → IsOneOf d p reported.phase f
-  pub no_more : (code : ℕ) (w : Placed) → IsFaultIn d p reported.phase code w → Contains (first ∷ others) (refusal code w)
+  pub are_listed : faults_of d p ≡ first ∷ others
 
 pub record AreTyped : Type 0 where
   -- Each name becomes its number, regardless of case.

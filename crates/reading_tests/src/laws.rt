@@ -9,7 +9,7 @@ use explain_plans::false_parts_report;
 use formulas::{MAX_STEPS, formula_examples_are_judged, one_state, sure_literals_hold};
 use task::{MAX_ARGUMENTS, MAX_OBJECTS, MAX_VARIABLES};
 use tokens::LONGEST_TEXT;
-use typing::{examples_are_typed, supertypes_are_those_above};
+use typing::{cycles_are_of_ancestors, examples_are_typed, supertypes_are_those_above};
 use validator::{exactly_one_verdict_is_true, worked_examples_are_true};
 
 #[test]
@@ -21,6 +21,7 @@ fn laws_of_reading_are_called() {
     pddl_tree::examples_are_as_reported();
     examples_are_typed();
     supertypes_are_those_above();
+    cycles_are_of_ancestors();
     plan_file::one_plan();
     plan_file::one_fault();
     plan_file::examples_are_as_reported();

@@ -1,20 +1,19 @@
 -- The listed faults are faults of the pair.
-use Rattle.std.proofs.Common.{◌≡◌, ◌∙◌, List, [], ◌∷◌, ◌++◌, drop, map, take, Contains, ◌⊎◌, inl, inr, refl, sym, ap, subst}
+use Rattle.std.proofs.Common.{◌≡◌, ◌∙◌, ℕ, Some, List, [], ◌∷◌, ◌++◌, drop, map, take, Contains, ◌⊎◌, inl, inr, refl, sym, ap, subst}
+use Rattle.std.specs.Prelude.{slice_get}
 use Rattle.std.proofs.lemmas.List.{take-append-drop}
 use Rattle.std.proofs.lemmas.List.Elements.{All-contains_itself, Contains-append_cases, Contains-append_left}
 use Rattle.std.proofs.lemmas.List.Sorted.{All-permutation}
 use Rattle.typing.specs.Refusals.{TaskRefusal, refusal_of}
 use Rattle.typing.specs.Declarations.{declared_faults, type_faults_of}
 use Rattle.typing.specs.DeclaredObjects.{AreObjects, AreObjectsOf}
-use Rattle.typing.specs.Listed.{AreFaultsOf, AreListed, IsFaultOf, faults_listed, use_faults}
+use Rattle.typing.specs.Listed.{AreFaultsOf, AreListed, faults_listed, use_faults}
 use Rattle.typing.specs.declared.names.DeclaredObjects.{DeclaredObjects}
 use Rattle.typing.proofs.Tasks.{first_filled-append}
 use Rattle.model.specs.Task.{Name}
-use Rattle.model.specs.Trees.{Domain, Problem}
-use Rattle.model.specs.Typing.{TypingFault, cycle_faults, declaration_faults, declared_constants, declared_objects, domain_name_faults, first_filled, function_faults, object_faults, object_in, objects_faults, type_declaration_faults, type_names}
-use Rattle.model.specs.TypingFaults.{Phase, of_actions, of_cycles, of_functions, of_goal, of_init, of_names, of_objects, of_predicates}
-use Rattle.model.proofs.ListLemmas.{Contains-map, Contains-none}
-use Rattle.model.proofs.TypingFaultsPhases.{listed_reported, phase_faults}
+use Rattle.model.specs.Trees.{Domain, Problem, problem_file}
+use Rattle.model.specs.Typing.{IsFaultOf, TypingFault, action_faults, cycle_faults, declaration_faults, declared_constants, declared_objects, domain_name_faults, first_filled, function_faults, init_faults, known_in_domain, known_in_problem, object_faults, object_in, objects_faults, phases, type_declaration_faults, type_names}
+use Rattle.model.proofs.ListLemmas.{Contains-got, Contains-map, Contains-none}
 
 -- ---- the objects
 
@@ -34,21 +33,19 @@ pub listed_by_parts : (d : Domain) (p : Problem) → faults_listed d p ≡ first
 listed_by_parts d p = first_filled-append (type_faults_of d p ∷ object_faults d p ∷ declaration_faults (type_names d) d.predicates ∷ function_faults d p ∷ []) (use_faults d p ∷ [])
 
 module _ (d : Domain) (p : Problem) where
-  -- a listed fault of a phase
-  fault_of : (phase : Phase) (f : TypingFault) → Contains (phase_faults d p phase) f → IsFaultOf d p f
-  fault_of phase f at =
-      let there = listed_reported d p phase f at in
-      subst (IsFaultOf d p) there.is (record { phase = phase; word = there.word; is_fault = there.is_fault; file = refl; span = refl })
+  -- a fault of the phase at this place
+  fault_at : (place : ℕ) (faults : List TypingFault) → slice_get (phases d p) place ≡ Some faults → (f : TypingFault) → Contains faults f → IsFaultOf d p f
+  fault_at place faults at f here = (faults, Contains-got (phases d p) place faults at, here)
 
   -- or of one of the three phases of uses
   use_fault : (f : TypingFault) → Contains (use_faults d p) f → IsFaultOf d p f
   use_fault f at =
-      elim (Contains-append_cases (phase_faults d p of_actions) (phase_faults d p of_init ++ phase_faults d p of_goal) f at) [
-        | inl here ↦ fault_of of_actions f here
+      elim (Contains-append_cases (action_faults (known_in_domain d) d.actions) _ f at) [
+        | inl here ↦ fault_at 5 _ refl f here
         | inr later ↦
-            elim (Contains-append_cases (phase_faults d p of_init) (phase_faults d p of_goal) f later) [
-              | inl here ↦ fault_of of_init f here
-              | inr here ↦ fault_of of_goal f here
+            elim (Contains-append_cases (init_faults problem_file (known_in_problem d p) p.init) _ f later) [
+              | inl here ↦ fault_at 6 _ refl f here
+              | inr here ↦ fault_at 7 _ refl f here
             ]
       ]
 
@@ -65,14 +62,14 @@ module _ (d : Domain) (p : Problem) where
   nowhere f at = absurd (Contains-none f at)
 
   type_fault : (f : TypingFault) → Contains (type_faults_of d p) f → IsFaultOf d p f
-  type_fault = either (domain_name_faults d p ++ type_declaration_faults d) (cycle_faults d ∷ []) (fault_of of_names) (either (cycle_faults d) [] (fault_of of_cycles) nowhere)
+  type_fault = either (domain_name_faults d p ++ type_declaration_faults d) (cycle_faults d ∷ []) (fault_at 0 _ refl) (either (cycle_faults d) [] (fault_at 1 _ refl) nowhere)
 
   each_fault : (f : TypingFault) → Contains (faults_listed d p) f → IsFaultOf d p f
   each_fault =
       either (type_faults_of d p) _ type_fault
-      (either (object_faults d p) _ (fault_of of_objects)
-      (either (declaration_faults (type_names d) d.predicates) _ (fault_of of_predicates)
-      (either (function_faults d p) _ (fault_of of_functions)
+      (either (object_faults d p) _ (fault_at 2 _ refl)
+      (either (declaration_faults (type_names d) d.predicates) _ (fault_at 3 _ refl)
+      (either (function_faults d p) _ (fault_at 4 _ refl)
       (either (use_faults d p) [] use_fault nowhere))))
 
   pub are_faults : (listed : List TaskRefusal) → AreListed (faults_listed d p) listed → AreFaultsOf d p listed

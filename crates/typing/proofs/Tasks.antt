@@ -7,7 +7,7 @@ use Rattle.std.proofs.lemmas.List.{length-map, take_all, map-append}
 use Rattle.model.specs.Task as task
 use Rattle.model.specs.Trees as tree
 use Rattle.model.specs.Trees.{TaskFile, domain_file, problem_file}
-use Rattle.model.specs.Typing.{TypingFault, Declared, Known, folded, names_of, names_of_objects, number_in, type_in, type_names, parents_of, types_of, Descends, whole_chain, comes_back, type_faults, words_of, one_after, refused, repeated, repeated_after, predicate_faults, terms_faults, arguments_in, ground_atom_faults, initial_cost_faults, fact_faults, facts_faults, init_faults, function_faults, formula_faults, domain_name_faults, type_declaration_faults, cycle_faults, object_faults, declaration_faults, action_faults, argument_faults, schema_faults, atom_in, atoms_in, object_in, declared_types, declared_constants, declared, equals_in, in_function, predicate_in, predicates_of, functions_of, objects_of, schema_in, values_after, formula_in, known_in_domain, known_in_problem, task_of_trees, faults_of, first_filled, ListsNoFault}
+use Rattle.model.specs.Typing.{TypingFault, Declared, Known, folded, names_of, names_of_objects, number_in, type_in, type_names, parents_of, types_of, Descends, whole_chain, comes_back, type_faults, words_of, one_after, refused, repeated, repeated_after, predicate_faults, terms_faults, arguments_in, ground_atom_faults, initial_cost_faults, fact_faults, facts_faults, init_faults, function_faults, formula_faults, domain_name_faults, type_declaration_faults, cycle_faults, object_faults, declaration_faults, action_faults, argument_faults, schema_faults, atom_in, atoms_in, object_in, declared_types, declared_constants, declared, equals_in, in_function, predicate_in, predicates_of, functions_of, objects_of, schema_in, values_after, formula_in, known_in_domain, known_in_problem, task_of_trees, faults_of, first_filled, IsWellTyped}
 use Rattle.model.specs.WellTyped.{is_task}
 use Rattle.model.proofs.Tests.{passes_got}
 use Rattle.typing.specs.declared.names.Names.{Names}
@@ -187,7 +187,7 @@ module _ (d : tree.Domain) (p : tree.Problem) (no_declared : declared_faults d p
 
 -- the products of the phases for the pair, which found no fault
 pub record IsMade (d : tree.Domain) (p : tree.Problem) (made : task.Task) : Type 0 where
-  pub well_typed : ListsNoFault d p
+  pub well_typed : IsWellTyped d p
   pub same : made ≡ task_of_trees d p
   pub typed : is_task made ≡ true
 

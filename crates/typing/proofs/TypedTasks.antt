@@ -4,23 +4,16 @@ use Rattle.std.specs.Prelude.{IsTrue, slice_get}
 use Rattle.model.specs.Task.{Task}
 use Rattle.model.specs.Trees.{Domain, Problem}
 use Rattle.model.specs.Resolution.{TypingFault, task_of_trees}
-use Rattle.model.specs.Typing.{first_filled, phases}
-use Rattle.model.specs.TypingFaults.{IsWellTyped, SupertypesAreThoseAbove}
+use Rattle.model.specs.Typing.{IsWellTyped, SupertypesAreThoseAbove, first_filled, phases}
 use Rattle.model.specs.WellTyped.{is_task}
 use Rattle.model.specs.Files.{IsTaskOf}
-use Rattle.model.proofs.TypingFaultsReported.{well_typed_listed}
-use Rattle.typing.proofs.Tasks.{none_filled, supertypes_above, typed}
-
--- if the first list with a fault is empty, all lists are
-each_empty : (lists : List (List TypingFault)) → first_filled lists ≡ [] → (k : ℕ) (faults : List TypingFault) → slice_get lists k ≡ Some faults → faults ≡ []
-each_empty [] none k faults at = absurd (cc)
-each_empty (first ∷ later) none zero faults at = let same : first ≡ faults = cc in sym same ∙ (none_filled first later none).0
-each_empty (first ∷ later) none (suc k) faults at = each_empty later (none_filled first later none).1 k faults at
+use Rattle.model.proofs.TypingLemmas.{each_empty}
+use Rattle.typing.proofs.Tasks.{supertypes_above, typed}
 
 -- the task of a well-typed pair
 pub trees_are_typed : (d : Domain) (p : Problem) → IsWellTyped d p → is_task (task_of_trees d p) ≡ true
 trees_are_typed d p well =
-    let empty = each_empty (phases d p) (well_typed_listed d p well) in
+    let empty = each_empty (phases d p) well in
     typed d p
     (λ i. first_filled (first_filled (empty 0 _ refl i ∷ empty 1 _ refl i ∷ []) ∷ empty 2 _ refl i ∷ empty 3 _ refl i ∷ empty 4 _ refl i ∷ []))
     (empty 5 _ refl)
@@ -29,7 +22,7 @@ trees_are_typed d p well =
 -- and its supertypes
 pub supertypes_are_those_above : SupertypesAreThoseAbove
 supertypes_are_those_above d p well =
-    let empty = each_empty (phases d p) (well_typed_listed d p well) in
+    let empty = each_empty (phases d p) well in
     supertypes_above d p
     (λ i. first_filled (first_filled (empty 0 _ refl i ∷ empty 1 _ refl i ∷ []) ∷ empty 2 _ refl i ∷ empty 3 _ refl i ∷ empty 4 _ refl i ∷ []))
     (empty 5 _ refl)

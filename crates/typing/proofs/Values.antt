@@ -1,15 +1,16 @@
 -- How facts that give values to functions change the values given before, and their faults.
-use Rattle.std.proofs.Common.{◌≡◌, ◌∙◌, ℕ, ◌+◌, ◌<◌, ◌≤◌, ◌==◌, Bool, true, false, not, is_some, List, [], ◌∷◌, ◌++◌, map, length, drop, get_or, None, Some, sym, ap, if◌then◌else◌}
-use Rattle.std.specs.List.{list_any}
+use Rattle.std.proofs.Common.{◌≡◌, ◌∙◌, ℕ, ◌+◌, ◌<◌, ◌≤◌, ◌==◌, Bool, true, false, not, is_some, List, [], ◌∷◌, ◌++◌, map, length, drop, fold, get_or, None, Some, sym, ap, if◌then◌else◌}
+use Rattle.std.specs.List.{flat_map, list_any}
 use Rattle.std.specs.Option.{option_map_or}
 use Rattle.std.proofs.lemmas.List.{drop_more, drop_all}
+use Rattle.std.proofs.lemmas.List.Concat.{flat_map-append}
+use Rattle.std.proofs.lemmas.List.Sums.{fold-append}
 use Rattle.std.proofs.Math.Bool.{or-false}
 use Rattle.model.specs.Task as task
 use Rattle.model.specs.Meaning.{value_in}
 use Rattle.model.specs.Trees as tree
 use Rattle.model.specs.Trees.{TaskFile}
 use Rattle.model.specs.Typing.{Known, TypingFault, atom_in, differing, fact_faults, facts_faults, in_function, is_named, value_faults, values_after, values_in, with_value}
-use Rattle.model.proofs.TypingFaultsPhases.{values_after-append}
 use Rattle.typing.specs.Walk.{Findings, found}
 use Rattle.typing.proofs.Found.{found-append}
 
@@ -29,6 +30,12 @@ module _ (values : List task.FunctionValue) (v : task.FunctionValue) where
 
   pub none_differs : value_in values v.function ≡ None → false ≡ differing values v
   none_differs is = ap (λ o. option_map_or (λ value. not (value == v.value)) o false) (sym is)
+
+-- the values of some facts, followed by others
+values_after-append : (known : Known) (given : List task.FunctionValue) (first rest : List tree.Fact)
+    → values_after known given (first ++ rest) ≡ values_after known (values_after known given first) rest
+values_after-append known given first rest =
+    ap (fold with_value given) (flat_map-append (values_in known) first rest) ∙ fold-append with_value given (flat_map (values_in known) first) (flat_map (values_in known) rest)
 
 -- the fault of a value whose names are known
 pub reported_of_named : (known : Known) (values : List task.FunctionValue) (v : tree.InitialValue) (function : task.Atom)

@@ -4,9 +4,8 @@ use Rattle.std.specs.List.Sorted.{IsPermutation}
 use Rattle.typing.specs.Refusals.{TaskRefusal, refusal_of}
 use Rattle.typing.specs.Declarations.{type_faults_of}
 use Rattle.model.specs.Trees.{Domain, Problem, problem_file}
-use Rattle.model.specs.Resolution.{Placed, TypingFault}
-use Rattle.model.specs.Typing.{action_faults, declaration_faults, first_filled, formula_faults, function_faults, init_faults, known_in_domain, known_in_problem, object_faults, type_names}
-use Rattle.model.specs.TypingFaults.{Phase, IsFaultIn}
+use Rattle.model.specs.Resolution.{TypingFault}
+use Rattle.model.specs.Typing.{IsFaultOf, action_faults, declaration_faults, first_filled, formula_faults, function_faults, init_faults, known_in_domain, known_in_problem, object_faults, type_names}
 
 -- the faults of the actions, of the initial state and of the goal, which do not depend on each other
 abbrev pub use_faults : Domain → Problem → List TypingFault
@@ -22,14 +21,6 @@ pub record AreListed (faults : List TypingFault) (listed : List TaskRefusal) : T
   pub found : List TaskRefusal
   pub are : map refusal_of found ≡ take 1000 faults
   pub ordered : IsPermutation found listed
-
--- the fault is one of the pair: in some phase, a word of one of its files is refused like this
-pub record IsFaultOf (d : Domain) (p : Problem) (f : TypingFault) : Type 0 where
-  pub phase : Phase
-  pub word : Placed
-  pub is_fault : IsFaultIn d p phase f.fault.code word
-  pub file : f.file ≡ word.file
-  pub span : f.fault.span ≡ word.word.span
 
 -- every listed fault is a fault of the pair
 abbrev pub AreFaultsOf : Domain → Problem → List TaskRefusal → Type 0

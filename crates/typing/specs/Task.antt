@@ -4,7 +4,6 @@ pub use Rattle.typing.specs.QuantifiedNames.{variable_names}
 pub use Rattle.typing.specs.Refusals.{refusal_of, PairFault, TaskFault, ReportsAll}
 use Rattle.faults.specs.declared.refused.Refused.TheVariants.{At, NoMemory}
 use Rattle.model.specs.Trees as tree
-use Rattle.model.specs.TypingFaults as typing_faults
 use Rattle.model.specs.Typing.{IsLeastOf, TypingFault, faults_of}
 use Rattle.std.specs.Prelude.{List}
 
@@ -13,15 +12,10 @@ abbrev pub ReportsLeastOf : List TypingFault → TaskFault → Type 0
 ReportsLeastOf faults NoMemory = Unit {0}
 ReportsLeastOf faults (At r) = IsLeastOf faults (refusal_of r)
 
--- the least fault of the pair is reported; nothing is stated for running out of memory
-abbrev pub ReportsLeastFault : tree.Domain → tree.Problem → TaskFault → Type 0
-ReportsLeastFault d p = ReportsLeastOf (faults_of d p)
+-- the fault is the one that is reported for the pair; nothing is stated for running out of memory
+abbrev pub ReportsFault : tree.Domain → tree.Problem → TaskFault → Type 0
+ReportsFault d p = ReportsLeastOf (faults_of d p)
 
 -- the faults of the pair are reported; nothing is stated for running out of memory
 abbrev pub ReportsFaults : tree.Domain → tree.Problem → PairFault → Type 0
 ReportsFaults d p = ReportsAll (faults_of d p)
-
--- the fault of the pair according to the table of faults is reported; nothing is stated for running out of memory
-abbrev pub ReportsFault : tree.Domain → tree.Problem → TaskFault → Type 0
-ReportsFault d p NoMemory = Unit {0}
-ReportsFault d p (At r) = typing_faults.IsReported d p (refusal_of r)

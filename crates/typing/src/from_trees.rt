@@ -2,11 +2,10 @@
 ghost use Rattle.std.specs.Prelude.{◌≡◌, List, IfErr, IfOk, OnOk};
 ghost use Rattle.task.specs.Task.{task_of, variable_names_of};
 ghost use Rattle.task.specs.VariableNames.{VariableNames};
-ghost use Rattle.typing.specs.Task.{ReportsAll, ReportsFault, ReportsFaults, ReportsLeastFault, ReportsLeastOf, variable_names};
+ghost use Rattle.typing.specs.Task.{ReportsAll, ReportsFault, ReportsFaults, ReportsLeastOf, variable_names};
 ghost use Rattle.model.specs.Task as task;
-ghost use Rattle.model.specs.TypingFaults as typing_faults;
 ghost use Rattle.pddl_tree.specs.Tree.{domain_of, problem_of};
-ghost use Rattle.model.specs.Typing.{task_of_trees, ListsNoFault, TypingFault};
+ghost use Rattle.model.specs.Typing.{task_of_trees, IsWellTyped, TypingFault};
 
 use crate::actions;
 use crate::fault::{PairFault, TaskFault};
@@ -40,7 +39,7 @@ pub trait FromTrees: Sized {
     ///
     /// With `(:objects a)` the problem is refused by `Duplicate` at its `a`.
     fn new(alloc: Global, domain: Domain<'_>, problem: Problem<'_>) -> Result<Self, TaskFault>
-        ensures well_typed { OnOk result (typing_faults.IsWellTyped (domain_of domain.entry) (problem_of problem.entry)) }
+        ensures well_typed { OnOk result (IsWellTyped (domain_of domain.entry) (problem_of problem.entry)) }
         ensures task { IfOk result (λ t. task_in t ≡ task_of_trees (domain_of domain.entry) (problem_of problem.entry)) }
         ensures names { IfOk result (λ t. names_in t ≡ variable_names (domain_of domain.entry) (problem_of problem.entry)) }
         ensures least { IfErr result (ReportsFault (domain_of domain.entry) (problem_of problem.entry)) };
@@ -58,10 +57,10 @@ impl FromTrees for Task {
 
 /// The task of a domain and a problem, taken by reference.
 fn of_trees(alloc: Global, domain: &Domain<'_>, problem: &Problem<'_>) -> Result<Task, TaskFault>
-    ensures well_typed { OnOk result (ListsNoFault (domain_of domain.now) (problem_of problem.now)) }
+    ensures well_typed { OnOk result (IsWellTyped (domain_of domain.now) (problem_of problem.now)) }
     ensures task { IfOk result (λ t. task_of t ≡ task_of_trees (domain_of domain.now) (problem_of problem.now)) }
     ensures names { IfOk result (λ t. variable_names_of t ≡ variable_names (domain_of domain.now) (problem_of problem.now)) }
-    ensures least { IfErr result (ReportsLeastFault (domain_of domain.now) (problem_of problem.now)) }
+    ensures least { IfErr result (ReportsFault (domain_of domain.now) (problem_of problem.now)) }
 {
     match made(alloc, domain, problem) {
         Ok(task) => Ok(task),
@@ -81,7 +80,7 @@ fn least(fault: PairFault) -> TaskFault
 
 /// The same, with all faults of the first phase that has any.
 fn made(alloc: Global, domain: &Domain<'_>, problem: &Problem<'_>) -> Result<Task, PairFault>
-    ensures well_typed { OnOk result (ListsNoFault (domain_of domain.now) (problem_of problem.now)) }
+    ensures well_typed { OnOk result (IsWellTyped (domain_of domain.now) (problem_of problem.now)) }
     ensures task { IfOk result (λ t. task_of t ≡ task_of_trees (domain_of domain.now) (problem_of problem.now)) }
     ensures names { IfOk result (λ t. variable_names_of t ≡ variable_names (domain_of domain.now) (problem_of problem.now)) }
     ensures reported { IfErr result (ReportsFaults (domain_of domain.now) (problem_of problem.now)) }

@@ -25,7 +25,7 @@ mod walk;
 
 pub use fault::{PairFault, PairRefusal, TaskFault, TaskRefusal};
 pub use from_trees::FromTrees;
-pub use laws::{examples_are_typed, supertypes_are_those_above};
+pub use laws::{cycles_are_of_ancestors, examples_are_typed, supertypes_are_those_above};
 pub use listed::listed_faults;
 pub use names::DeclaredObjects;
 pub use pddl_tree::TaskFile;
