@@ -1,4 +1,5 @@
 pub mod EstimateLemmas
 mod ClimbLemmas
 mod FairAtLemmas
+mod FromZeroLemmas
 mod TestedLemmas

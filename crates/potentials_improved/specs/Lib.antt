@@ -4,5 +4,6 @@ pub mod Tested
 pub mod Groundwork
 pub mod Climb
 pub mod Drafted
+pub mod SettledOrHigh
 pub use Rattle.potentials.specs.Potentials
 pub use Rattle.potentials.specs.Fairness

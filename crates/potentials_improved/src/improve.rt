@@ -1,57 +1,61 @@
 //! Improves potentials.
-ghost use Rattle.std.specs.Prelude.{◌≡◌, ℕ, IfOk, length};
-ghost use Rattle.grounding.specs.declared.ground.Ground.{Ground};
+ghost use Rattle.std.specs.Prelude.{◌≡◌, IfOk, length};
 ghost use Rattle.grounding.specs.Ground.{task_in, atoms_in};
 ghost use Rattle.lower_bounds.specs.FairPotentials.{AreFairAt};
 ghost use Rattle.lower_bounds.specs.Settled.{IsImprovedAt};
 ghost use Rattle.potentials.specs.Potentials.{potentials_of};
+ghost use Rattle.potentials_improved.specs.FairPotentials.{potentials_in, ground_in};
 ghost use Rattle.potentials_improved.specs.Groundwork.{ground_under};
+ghost use Rattle.potentials_improved.specs.SettledOrHigh.{AreSettledOrHighAt};
 
 use crate::climb::Climb;
 use crate::drafted::Drafts;
 use crate::fair_at::FairAt;
 use crate::groundwork::Groundwork;
 use faults::NoMemory;
+use grounding::Ground;
 use potentials::Potentials;
 use std::alloc::Global;
 
-/// Potentials that can be improved and stay fair.
-pub trait Improve: Sized {
-    /// Their ground task.
-    ghost ground_of: { Self → Ground };
+/// The limit of rounds. Each raises the initial state's value, or is the last.
+const IMPROVING_ROUNDS: u32 = 8;
 
-    /// Whether the second are an improvement of the first in this many rounds.
-    ghost IsImproved: { ℕ → Self → Self → Type 0 };
+/// Fair potentials of the ground task at an allowance, improved from those that are 0.
+///
+/// # Errors
+/// Memory is refused.
+pub fn improved_from_zero<'g, 't, A: Drafts>(
+    alloc: Global,
+    ground: &'g Ground<'t>,
+    groundwork: &Groundwork<'_, '_>,
+) -> Result<FairAt<'g, 't, A>, NoMemory>
+    requires { ground_under groundwork.now ≡ ground.now }
+    ensures ground { IfOk result (λ f. ground_in f ≡ ground.now) }
+    ensures improved { IfOk result (λ f. AreSettledOrHighAt (A.allowance (task_in ground.now)) (task_in ground.now) (atoms_in ground.now) (potentials_in f)) }
+{
+    let zero = Potentials::zero(alloc, ground)?;
+    let fair: FairAt<'g, 't, A> = FairAt::known(zero, ground);
+    let better = fair.improve(alloc, groundwork, IMPROVING_ROUNDS)?;
+    Ok(better)
+}
 
-    /// Potentials of the same kind whose value of the initial state is no lower, after at most `rounds` rounds.
+impl<A: Drafts> FairAt<'_, '_, A> {
+    ghost use Rattle.potentials_improved.specs.FairPotentials.{AreBetter};
+
+    /// Potentials of the same kind whose value of the initial state is no lower: by drafts first, then by steps of single weights, one
+    /// pass over all atoms a round. The result is settled, or its value of the initial state is higher by at least `rounds`.
     ///
     /// # Errors
-    /// An allocation failed. The potentials are gone then.
-    fn improve(
+    /// Memory is refused. The potentials are gone then.
+    pub fn improve(
         self,
         alloc: Global,
         groundwork: &Groundwork<'_, '_>,
         rounds: u32,
     ) -> Result<Self, NoMemory>
-        requires { ground_under groundwork.now ≡ ground_of self }
-        ensures { IfOk result (IsImproved rounds self) };
-}
-
-/// Drafts first, then steps of single weights, one pass over all atoms a round. The result is settled, or its value of the initial
-/// state is higher by at least the number of rounds.
-impl<A: Drafts> Improve for FairAt<'_, '_, A> {
-    ghost use Rattle.potentials_improved.specs.FairPotentials.{ground_in, AreBetter};
-
-    ghost ground_of = { ground_in };
-
-    ghost IsImproved = { λ rounds. AreBetter (λ task atoms. IsImprovedAt (A.allowance task) task atoms rounds) };
-
-    fn improve(
-        self,
-        alloc: Global,
-        groundwork: &Groundwork<'_, '_>,
-        rounds: u32,
-    ) -> Result<Self, NoMemory> {
+        requires { ground_under groundwork.now ≡ ground_in self }
+        ensures { IfOk result (AreBetter (λ task atoms. IsImprovedAt (A.allowance task) task atoms rounds) self.entry) }
+    {
         let FairAt {
             potentials,
             ground,

@@ -21,5 +21,5 @@ pub use dead_ends::DeadEnds;
 pub use drafted::Drafts;
 pub use fair_at::{DeadFair, Fair, FairAt};
 pub use groundwork::Groundwork;
-pub use improve::Improve;
+pub use improve::improved_from_zero;
 pub use potentials::{Fairness, Potentials};

@@ -1,22 +1,17 @@
 -- What is known of potentials in range, and of the values that they give to packed states.
-use Rattle.std.proofs.Common.{◌≡◌, ℕ, suc, Bool, true, ◌&&◌, List, [], ◌∷◌, length, inl, inr, refl, ap, ◌∙◌, arith, ℤ, pos, negsuc}
+use Rattle.std.proofs.Common.{◌≡◌, ℕ, suc, Bool, true, ◌&&◌, List, [], ◌∷◌, length, refl, ap, ◌∙◌, arith, ℤ, pos, negsuc}
 use Rattle.std.specs.Prelude.{◌==◌, All, IsTrue}
 use Rattle.std.specs.List.{list_all}
 use Rattle.std.proofs.lemmas.Bool.{and_from, lt-ltb, le-leb, eq-eqb}
 use Rattle.std.proofs.lemmas.Int.{ints}
-use Rattle.std.proofs.lemmas.List.{length-replicate}
-use Rattle.model.specs.Task.{Task, Atom, Instance}
+use Rattle.model.specs.Task.{Task, Atom}
 use Rattle.model.specs.Fluents.{is_fluent}
 use Rattle.model.specs.NumberedAtoms.{numbered_atoms}
 use Rattle.model.specs.Grounding.{state_of_bits, bits_of_state}
 use Rattle.model.proofs.GroundTaskLemmas.{packs_states}
 use Rattle.lower_bounds.specs.PotentialFunctions.{PotentialFunction, score, or_zero, value, IsInRange, AreInRange}
-use Rattle.lower_bounds.specs.FairPotentials.{AreFairAt}
-use Rattle.lower_bounds.specs.Settled.{IsImprovedAt}
-use Rattle.lower_bounds.proofs.Zero.{zero_potentials}
 use Rattle.search.specs.Estimates.{above_zero, value_by}
 use Rattle.certificate_definitions.specs.Certificates.{is_weight, are_potentials}
-use Rattle.solver.specs.Improved.{AreSettledOrHighAt}
 
 -- ---- the estimate of a search and the value are one
 
@@ -30,23 +25,6 @@ estimate-value p = λ i bits. above-or (score p bits) i
 -- where the estimate goes by the score of potentials
 pub value_by-value : (by : List Bool → ℤ) (p : PotentialFunction) → by ≡ score p → value_by by ≡ value p
 value_by-value by p is = ap (λ (s : List Bool → ℤ). value_by s) is ∙ estimate-value p
-
--- ---- improving
-
--- what improving gives in 8 rounds
-pub improved_end : (allowance : Instance → ℕ) (task : Task) (atoms : List Atom) (p q : PotentialFunction) → AreFairAt allowance task atoms q → IsImprovedAt allowance task atoms 8 p q
-    → AreSettledOrHighAt allowance task atoms q
-improved_end allowance task atoms p q fair improved = record {
-  fair = fair;
-  settled_or_high = elim improved.end [
-    | inl settled ↦ inl settled
-    | inr higher ↦ inr (omega (arith, higher))
-  ];
-}
-
--- there are as many weights as it is begun with
-pub zero-width : (p : PotentialFunction) (count : ℕ) → p ≡ zero_potentials count → length p.weights ≡ count
-zero-width p count is = ap (λ (q : PotentialFunction). length q.weights) is ∙ length-replicate count (pos 0)
 
 -- ---- range
 

@@ -1,19 +1,14 @@
 -- How good the potentials are by which a task is solved.
-use Rattle.std.specs.Prelude.{ℕ, ◌≤◌, ◌⊎◌, List}
-use Rattle.model.specs.Task.{Task, Atom, Instance}
+use Rattle.std.specs.Prelude.{◌≤◌, List}
+use Rattle.model.specs.Task.{Task, Atom}
 use Rattle.model.specs.Meaning.{cost_of, initial_state}
 use Rattle.lower_bounds.specs.PotentialFunctions.{PotentialFunction}
-use Rattle.lower_bounds.specs.FairPotentials.{AreFairAt, nothing}
-use Rattle.lower_bounds.specs.Settled.{initial_value, IsSettledAt}
+use Rattle.lower_bounds.specs.FairPotentials.{nothing}
+use Rattle.lower_bounds.specs.Settled.{initial_value}
+use Rattle.potentials_improved.specs.SettledOrHigh.{AreSettledOrHighAt}
 use Rattle.certificate_definitions.specs.Certificates.{Certificate, potentials_of, value_of}
 
--- They are fair at this allowance by themselves, with no table; and of those near them that are none gives the initial state a greater
--- value, or they give it at least 8.
-pub record AreSettledOrHighAt (allowance : Instance → ℕ) (task : Task) (atoms : List Atom) (p : PotentialFunction) : Type 0 where
-  pub fair : AreFairAt allowance task atoms p
-  pub settled_or_high : IsSettledAt allowance task atoms p ⊎ (8 ≤ initial_value task atoms p)
-
--- at the allowance of fair ones, and of dead-fair ones
+-- settled or high at the allowance of fair ones, and at that of dead-fair ones
 abbrev pub AreSettledOrHigh : Task → List Atom → PotentialFunction → Type 0
 AreSettledOrHigh task = AreSettledOrHighAt (cost_of task) task
 

@@ -25,7 +25,6 @@ ghost use Rattle.model.specs.Task as model;
 ghost use Rattle.model.specs.WellTyped.{is_task};
 
 use crate::guidance::{Guidance, guidance_by};
-use crate::improved::improved;
 use crate::limits::Limits;
 use crate::listing::cert_of;
 use crate::parts::{Given, Parts, search_in_parts};
@@ -37,7 +36,7 @@ use devices::{Clock, Sink, Unheard};
 use faults::{NoMemory, Refused};
 use formulas::Plan;
 use grounding::{Ground, GroundLimit};
-use potentials_improved::{DeadFair, Fair, Groundwork};
+use potentials_improved::{DeadFair, Fair, Groundwork, improved_from_zero};
 use search::{EstimateWithDeadEnds, Outcome};
 use search_spaces::{SearchSpace, exchanges_of, plan_of};
 use std::alloc::Global;
@@ -309,8 +308,8 @@ fn solve_listed<E: Sink + Clock>(
 {
     let ground = space.ground();
     let groundwork = Groundwork::new(alloc, ground)?;
-    let estimate: Fair<'_, '_> = improved(alloc, ground, &groundwork)?;
-    let dead_ends: DeadFair<'_, '_> = improved(alloc, ground, &groundwork)?;
+    let estimate: Fair<'_, '_> = improved_from_zero(alloc, ground, &groundwork)?;
+    let dead_ends: DeadFair<'_, '_> = improved_from_zero(alloc, ground, &groundwork)?;
     drop(groundwork);
     let setting = Setting {
         alloc,

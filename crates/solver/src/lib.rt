@@ -10,7 +10,6 @@ mod by_tables;
 mod fair_guide;
 mod fair_tables;
 mod guidance;
-mod improved;
 mod limits;
 mod listing;
 mod max_version;

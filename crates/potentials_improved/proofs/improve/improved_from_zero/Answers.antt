@@ -3,11 +3,11 @@ use Rattle.grounding.specs.declared.ground.Ground.{Ground}
 use Rattle.grounding.specs.Ground.{task_in, atoms_in}
 use Rattle.lower_bounds.specs.FairPotentials.{AreFairAt}
 use Rattle.lower_bounds.proofs.Zero.{zero-fair_at}
-use Rattle.potentials_improved.specs.Potentials.{potentials_of}
+use Rattle.potentials.specs.Potentials.{potentials_of}
 use Rattle.potentials_improved.specs.FairPotentials.{potentials_in, ground_in}
-use Rattle.solver.specs.Improved.{AreSettledOrHighAt}
-use Rattle.solver.proofs.PotentialLemmas.{zero-width, improved_end}
-use Rattle.solver.proofs.improved.improved.Goals as goal
+use Rattle.potentials_improved.specs.SettledOrHigh.{AreSettledOrHighAt}
+use Rattle.potentials_improved.proofs.FromZeroLemmas.{zero-width, improved_end}
+use Rattle.potentials_improved.proofs.improve.improved_from_zero.Goals as goal
 
 pub known-fair-requires-clause-width : goal.known-fair-requires-clause-width
 known-fair-requires-clause-width g c = zero-width (potentials_of c.in_ok-zero.zero) (length (atoms_in c.args.ground.now)) c.in_ok-zero.ensures.zero

@@ -5,7 +5,7 @@ use Rattle.lower_bounds.specs.PotentialFunctions.{PotentialFunction}
 use Rattle.lower_bounds.specs.FairPotentials.{AreFairAt}
 use Rattle.lower_bounds.specs.Settled.{IsImprovedAt}
 use Rattle.potentials.specs.Potentials.{potentials_of}
-use Rattle.potentials_improved.proofs.improve.FairAtImprove.improve.Goals as goal
+use Rattle.potentials_improved.proofs.fair_at.FairAt.improve.Goals as goal
 
 pub improved-requires-clause-width : goal.improved-requires-clause-width
 improved-requires-clause-width g c = c.args.self.width ∙ sym (ap (λ (h : Ground). length (atoms_in h)) c.requires)
