@@ -6,7 +6,6 @@
 //! ignored (a projection; Edelkamp 2001, "Planning with Pattern Databases"). Nothing is claimed about the result.
 #![tactic(auto)]
 
-mod abstraction;
 mod adders;
 mod by_counting;
 mod classes;
@@ -23,11 +22,10 @@ mod steps;
 mod transitions;
 mod variables;
 
-pub use abstraction::{Abstraction, Arc, InstanceClass};
 pub use goals::GoalValues;
 pub use groups::{AtomGroup, found_groups};
 pub use numbers::{number_of, place_of};
 pub use reached::{MAX_TABLE_VARIABLES, Reaching, RowLimits, VariableTask};
-pub use row_graph::RowGraph;
+pub use row_graph::{Arc, InstanceClass, RowGraph};
 pub use steps::{Shutters, Steps};
 pub use variables::{VariableValue, Variables};

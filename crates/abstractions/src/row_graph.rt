@@ -1,10 +1,31 @@
 //! The reachable rows of a table, and the arcs between them.
-use crate::abstraction::{Abstraction, Arc, InstanceClass};
 use crate::lists::{append, with_room};
 use crate::numbers::{number_of, place_of};
 use crate::reached::VariableTask;
 use crate::variables::Variables;
 use faults::DraftMemory;
+
+/// Instances with the same behaviour in a table.
+#[derive(Clone, Copy, Debug)]
+pub struct InstanceClass {
+    /// Their start among the instances of all classes.
+    pub start: u32,
+    /// Their end.
+    pub end: u32,
+    /// Whether one of them may lead from some row to itself.
+    pub has_loop: bool,
+    /// The number of rows that allow them.
+    pub state_count: u32,
+}
+
+/// An arc: the instances of a class may lead from this row to another.
+#[derive(Clone, Copy, Debug)]
+pub struct Arc {
+    /// The number of the source.
+    pub from: u32,
+    /// The number of the class.
+    pub class: u32,
+}
 
 /// The reachable rows of a table, by number, the initial state's first, with the arcs between them.
 #[derive(Drop)]
@@ -115,14 +136,14 @@ impl RowGraph {
         scope.dedup();
         scope
     }
-}
 
-impl Abstraction for RowGraph {
-    fn state_count(&self) -> usize {
+    /// The number of rows.
+    pub fn state_count(&self) -> usize {
         self.rows.len()
     }
 
-    fn state_of(&self, values: &[u32]) -> Option<u32> {
+    /// The number of the row of a state, which is given by the values of all variables. `None` if it was not reached.
+    pub fn state_of(&self, values: &[u32]) -> Option<u32> {
         let index = self.index_of(values);
         match self
             .by_index
@@ -136,18 +157,21 @@ impl Abstraction for RowGraph {
         }
     }
 
-    fn is_goal(&self, state: u32) -> bool {
+    /// Whether the goal allows the row with this number.
+    pub fn is_goal(&self, state: u32) -> bool {
         match self.is_goal.get(place_of(state)) {
             Some(is_goal) => *is_goal,
             None => false,
         }
     }
 
-    fn classes(&self) -> &[InstanceClass] {
+    /// The classes of instances, by number.
+    pub fn classes(&self) -> &[InstanceClass] {
         &self.classes
     }
 
-    fn instances_of(&self, class: &InstanceClass) -> &[u32] {
+    /// The instances of the class, in ascending order.
+    pub fn instances_of(&self, class: &InstanceClass) -> &[u32] {
         match self
             .instances
             .get(place_of(class.start)..place_of(class.end))
@@ -157,7 +181,8 @@ impl Abstraction for RowGraph {
         }
     }
 
-    fn arcs_to(&self, state: u32) -> &[Arc] {
+    /// The arcs from other rows to the one with this number.
+    pub fn arcs_to(&self, state: u32) -> &[Arc] {
         let start = match place_of(state).checked_sub(1) {
             Some(before) => self.end(before),
             None => 0,
@@ -168,7 +193,8 @@ impl Abstraction for RowGraph {
         }
     }
 
-    fn size(&self) -> usize {
+    /// Its size as a measure of work: its arcs, rows and instances.
+    pub fn size(&self) -> usize {
         self.arcs
             .len()
             .saturating_add(self.rows.len())

@@ -1,9 +1,9 @@
 //! Levels of facts by h-max (Bonet & Geffner 2001, "Planning as Heuristic Search"): what it costs at least to reach each, where
 //! several facts cost as much as the dearest of them.
 use crate::facts::{ALWAYS, FIRST, Facts};
-use crate::level_queue::{LevelQueue, Waiting};
 use crate::relaxed_task::RelaxedTask;
 use crate::rows::number_of;
+use bucket_queue::{BucketQueue, Queued};
 use faults::DraftMemory;
 use grounding::NumberedLiteral;
 use packed_state::Packed;
@@ -13,6 +13,13 @@ const UNREACHED: u32 = u32::MAX;
 
 /// The greatest level of a fact that is reached. One that is dearer has this level too.
 const MAX_LEVEL: u32 = u32::MAX - 1;
+
+/// A fact that waits at a level.
+#[derive(Clone, Copy)]
+struct Waiting {
+    level: u32,
+    fact: u32,
+}
 
 /// What is known of an operator.
 #[derive(Clone, Copy)]
@@ -36,7 +43,8 @@ pub(crate) struct Levels {
     levels: Vec<u32>,
     /// The facts that hold in the state.
     holding: Vec<u32>,
-    queue: LevelQueue,
+    /// The facts that wait, by their levels.
+    queue: BucketQueue,
     /// How often an operator was looked at.
     steps: u64,
 }
@@ -53,7 +61,7 @@ impl Levels {
             operators: memory.list(),
             levels: memory.list(),
             holding: memory.list(),
-            queue: LevelQueue::new(memory),
+            queue: BucketQueue::new(memory),
             steps: 0,
         }
     }
@@ -129,7 +137,7 @@ impl Levels {
     /// Computes all levels.
     pub(crate) fn explore(&mut self, memory: &DraftMemory, task: &RelaxedTask) {
         for _ in 0..u64::MAX {
-            let Some(waiting) = self.queue.pop() else {
+            let Some(waiting) = self.next() else {
                 break;
             };
             if self.of(waiting.fact) == waiting.level {
@@ -174,7 +182,22 @@ impl Levels {
         let place = fact as usize;
         if place < self.levels.len() && level < self.levels[place] {
             self.levels[place] = level;
-            self.queue.push(memory, Waiting { level, fact });
+            let queued = Queued {
+                key: u64::from(level),
+                number: fact,
+            };
+            self.queue.push(memory, queued);
+        }
+    }
+
+    /// Removes a fact of the least level from those that wait.
+    fn next(&mut self) -> Option<Waiting> {
+        match self.queue.pop() {
+            Some(queued) => Some(Waiting {
+                level: u32::try_from(queued.key).unwrap_or(UNREACHED),
+                fact: queued.number,
+            }),
+            None => None,
         }
     }
 
@@ -213,7 +236,7 @@ impl Levels {
             }
         }
         for _ in 0..u64::MAX {
-            let Some(waiting) = self.queue.pop() else {
+            let Some(waiting) = self.next() else {
                 break;
             };
             if self.of(waiting.fact) == waiting.level {

@@ -5,7 +5,6 @@ mod cut;
 mod draft;
 mod drafter;
 mod facts;
-mod level_queue;
 mod levels;
 mod operators;
 mod relaxed_task;

@@ -7,7 +7,7 @@ use crate::orders::Order;
 use crate::partitioner::Partitioner;
 use crate::rests::{left_by, potentials_of_rest, score};
 use crate::states::Sampled;
-use abstractions::Abstraction;
+use abstractions::RowGraph;
 use faults::DraftMemory;
 use potentials::Potentials;
 use potentials_drafted::ProgramInput;
@@ -47,8 +47,8 @@ struct CandidateValue {
 
 /// The search for orders, the candidates, and the greatest value of each state: by all parts, and by tables alone.
 #[derive(Drop)]
-struct CandidateValues<'a, A> {
-    partitioner: Partitioner<'a, A>,
+struct CandidateValues<'a> {
+    partitioner: Partitioner<'a>,
     all: Vec<CandidateValue>,
     most: Vec<i64>,
     most_by_tables: Vec<i64>,
@@ -58,16 +58,16 @@ struct CandidateValues<'a, A> {
 
 /// The inputs of the choice.
 #[derive(Drop)]
-pub(crate) struct Choosing<'a, A> {
+pub(crate) struct Choosing<'a> {
     pub(crate) memory: &'a DraftMemory,
-    pub(crate) abstractions: &'a [A],
+    pub(crate) abstractions: &'a [RowGraph],
     pub(crate) costs: &'a Costs,
     pub(crate) sampled: Sampled<'a>,
     pub(crate) potentials: &'a Potentials,
     pub(crate) effort: Effort,
 }
 
-impl<A: Abstraction> Choosing<'_, A> {
+impl Choosing<'_> {
     /// The values beside the potentials alone: each raises the value of some state.
     pub(crate) fn values(&self, input: &mut ProgramInput) -> Vec<PartitionedValue> {
         let candidates = self.candidates(input);
@@ -89,7 +89,7 @@ impl<A: Abstraction> Choosing<'_, A> {
     }
 
     /// No candidates: each state has the value 0.
-    fn no_candidates(&self) -> CandidateValues<'_, A> {
+    fn no_candidates(&self) -> CandidateValues<'_> {
         let memory = self.memory;
         let states = self.sampled.abstract_states;
         CandidateValues {
@@ -102,7 +102,7 @@ impl<A: Abstraction> Choosing<'_, A> {
     }
 
     /// Adds the candidates by an order for the initial state.
-    fn add_first(&self, input: &mut ProgramInput, candidates: &mut CandidateValues<'_, A>) {
+    fn add_first(&self, input: &mut ProgramInput, candidates: &mut CandidateValues<'_>) {
         candidates.partitioner.allow(MAX_WORK_OF_PRUNING);
         let order = candidates.partitioner.best_order();
         candidates.partitioner.allow(self.part_of(MAX_WORK));
@@ -112,7 +112,7 @@ impl<A: Abstraction> Choosing<'_, A> {
     }
 
     /// Adds the candidates by orders for the other states.
-    fn add_others(&self, input: &mut ProgramInput, candidates: &mut CandidateValues<'_, A>) {
+    fn add_others(&self, input: &mut ProgramInput, candidates: &mut CandidateValues<'_>) {
         candidates
             .partitioner
             .allow(self.part_of(MAX_WORK_OF_STATES));
@@ -127,12 +127,7 @@ impl<A: Abstraction> Choosing<'_, A> {
 
     /// Adds the partition by this order, with potentials for the remaining costs, if its tables alone raise the value of some
     /// state.
-    fn add(
-        &self,
-        input: &mut ProgramInput,
-        order: &Order,
-        candidates: &mut CandidateValues<'_, A>,
-    ) {
+    fn add(&self, input: &mut ProgramInput, order: &Order, candidates: &mut CandidateValues<'_>) {
         let partition = candidates.partitioner.divide(order);
         let given = candidates.partitioner.values(&partition);
         if !raise(&mut candidates.most_by_tables, &given)
@@ -155,11 +150,11 @@ impl<A: Abstraction> Choosing<'_, A> {
         &self,
         input: &mut ProgramInput,
         order: &Order,
-        candidates: &mut CandidateValues<'_, A>,
+        candidates: &mut CandidateValues<'_>,
     ) {
         if let Some(potentials) = potentials_of_rest(self.memory, input, self.costs) {
             let left = left_by(self.memory, input, self.costs, potentials.weights());
-            let partition = CostPartition::new(self.memory, self.abstractions, order, &left);
+            let partition = candidates.partitioner.partition(order, &left);
             let value = PartitionedValue {
                 partition,
                 potentials,
@@ -169,7 +164,7 @@ impl<A: Abstraction> Choosing<'_, A> {
     }
 
     /// Adds the value if it raises the value of some state.
-    fn push(&self, value: PartitionedValue, candidates: &mut CandidateValues<'_, A>) {
+    fn push(&self, value: PartitionedValue, candidates: &mut CandidateValues<'_>) {
         let given = self.given(&value);
         if raise(&mut candidates.most, &given) {
             let candidate = CandidateValue { value, given };

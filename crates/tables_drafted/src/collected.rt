@@ -2,9 +2,9 @@
 //! interesting patterns of Pommerening, Röger & Helmert 2013, "Getting the Most Out of Pattern Databases for Classical Planning".
 use crate::costs::Costs;
 use crate::draft::Effort;
-use crate::goal_distances::{distance_of, distances};
+use crate::goal_distances::{GoalDistances, distance_of};
 use crate::links::Links;
-use abstractions::{Abstraction, Reaching, RowGraph, Shutters, VariableTask, place_of};
+use abstractions::{Reaching, RowGraph, Shutters, VariableTask, place_of};
 use faults::DraftMemory;
 use grounding::{Ground, instance_count};
 
@@ -38,6 +38,7 @@ pub(crate) struct Collecting<'a, 't> {
     pub(crate) states: &'a [Vec<u32>],
     pub(crate) effort: Effort,
     pub(crate) collected: Collected,
+    pub(crate) finder: GoalDistances<'a>,
     /// The memory used: rows plus an eighth of the arcs.
     pub(crate) room: usize,
 }
@@ -223,8 +224,8 @@ impl Collecting<'_, '_> {
     }
 
     /// Whether some of the states has a value in the table under the full costs, or is a dead end.
-    fn gives(&self, graph: &RowGraph) -> bool {
-        let distances = distances(self.memory, graph, &self.costs);
+    fn gives(&mut self, graph: &RowGraph) -> bool {
+        let distances = self.finder.of(graph, &self.costs);
         self.states.iter().any(|values| match graph.state_of(values) {
             Some(state) => distance_of(&distances, state) > 0,
             None => false,

@@ -1,8 +1,8 @@
 //! Cost partitions over abstractions.
 use crate::costs::Costs;
-use crate::goal_distances::{NO_WAY, distance_of, distances, take_saturated};
+use crate::goal_distances::{GoalDistances, NO_WAY, are_some_far, distance_of, take_saturated};
 use crate::orders::Order;
-use abstractions::Abstraction;
+use abstractions::RowGraph;
 use faults::DraftMemory;
 
 /// An abstraction's part of a partition: the value of each of its abstract states.
@@ -25,12 +25,13 @@ pub(crate) struct CostPartition {
 
 impl CostPartition {
     /// The partition in which the abstractions take their saturated costs in this order.
-    pub(crate) fn new<A: Abstraction>(
-        memory: &DraftMemory,
-        abstractions: &[A],
+    pub(crate) fn new(
+        finder: &mut GoalDistances<'_>,
+        abstractions: &[RowGraph],
         order: &Order,
         costs: &Costs,
     ) -> CostPartition {
+        let memory = finder.memory();
         let mut partition = CostPartition {
             parts: memory.list(),
             left: costs.copied(memory),
@@ -40,9 +41,11 @@ impl CostPartition {
                 break;
             }
             if let Some(abstraction) = abstractions.get(*table) {
-                let distances = distances(memory, abstraction, &partition.left);
+                let distances = finder.of(abstraction, &partition.left);
                 if distances.iter().any(|distance| *distance != 0) {
-                    take_saturated(memory, abstraction, &distances, &mut partition.left);
+                    if are_some_far(&distances) {
+                        take_saturated(memory, abstraction, &distances, &mut partition.left);
+                    }
                     let part = Part {
                         table: *table,
                         distances,

@@ -1,5 +1,5 @@
 //! Remaining costs of instances.
-use abstractions::{Abstraction, InstanceClass, place_of};
+use abstractions::{InstanceClass, RowGraph, place_of};
 use faults::DraftMemory;
 
 /// The remaining cost of each instance; `None` if the instance is shut out and its cost does not matter.
@@ -36,11 +36,7 @@ impl Costs {
     }
 
     /// The least remaining cost of the class's instances; `None` if all are shut out.
-    pub(crate) fn of_class<A: Abstraction>(
-        &self,
-        abstraction: &A,
-        class: &InstanceClass,
-    ) -> Option<i64> {
+    pub(crate) fn of_class(&self, abstraction: &RowGraph, class: &InstanceClass) -> Option<i64> {
         let mut least: Option<i64> = None;
         for instance in abstraction.instances_of(class) {
             if let Some(left) = self.of(*instance) {

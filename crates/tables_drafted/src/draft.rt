@@ -6,7 +6,7 @@ use crate::chosen::{Choosing, PartitionedValue};
 use crate::collected::{Collected, Collecting, costs_of};
 use crate::costs::Costs;
 use crate::dead_ends::DeadEnds;
-use crate::goal_distances::distances;
+use crate::goal_distances::GoalDistances;
 use crate::states::{Sampled, abstract_states_of_all, first_of, samples, values_of_all};
 use crate::written::{Writing, part_of, weight_of_dead};
 use abstractions::{
@@ -217,6 +217,7 @@ impl Subject<'_, '_> {
             states,
             effort: self.inputs.effort,
             collected: Collected::new(memory),
+            finder: GoalDistances::new(memory),
             room: 0,
         };
         collecting.collect();
@@ -266,12 +267,13 @@ impl Subject<'_, '_> {
             weight_of_dead: weight_of_dead(self.inputs.dead_ends),
         };
         let mut dead_ends = DeadEnds::new(self.memory, sampled.abstract_states);
+        let mut finder = GoalDistances::new(self.memory);
         let mut tables = self.memory.list();
         for (place, graph) in known.collected.graphs.iter().enumerate() {
             if self.memory.is_refused() {
                 break;
             }
-            let reach = distances(self.memory, graph, &known.costs);
+            let reach = finder.of(graph, &known.costs);
             let shows_more = dead_ends.show(place, &reach);
             if shows_more || known.is_used(place, values) {
                 self.memory

@@ -1,76 +1,101 @@
 //! Goal distances of abstract states, and the saturated costs that they need.
 use crate::costs::Costs;
-use abstractions::{Abstraction, InstanceClass, place_of};
+use abstractions::{InstanceClass, RowGraph, number_of, place_of};
+use bucket_queue::{BucketQueue, Queued};
 use faults::DraftMemory;
-use std::cmp::Reverse;
-use std::collections::BinaryHeap;
 
 /// The distance of an abstract state without a path to the goal.
 pub(crate) const NO_WAY: i64 = i64::MAX;
 
-/// Dijkstra's algorithm: the distances so far, and the abstract states to expand, by distance.
+/// Finds goal distances of abstract states, by Dijkstra's algorithm backwards from the goal.
 #[derive(Drop)]
-struct Dijkstra<'a> {
+pub(crate) struct GoalDistances<'a> {
     memory: &'a DraftMemory,
-    /// The remaining cost of each class.
+    /// The remaining cost of each class of instances; `None` if all are shut out.
     costs: Vec<Option<i64>>,
-    distances: Vec<i64>,
-    waiting: BinaryHeap<Reverse<(i64, u32)>>,
+    /// The abstract states to expand, by distance.
+    waiting: BucketQueue,
 }
 
-/// The goal distance of each abstract state under the remaining costs, by Dijkstra's algorithm backwards from the goal.
-pub(crate) fn distances<A: Abstraction>(
-    memory: &DraftMemory,
-    abstraction: &A,
-    costs: &Costs,
-) -> Vec<i64> {
-    let mut dijkstra = Dijkstra {
-        memory,
-        costs: class_costs(memory, abstraction, costs),
-        distances: memory.filled(NO_WAY, abstraction.state_count()),
-        waiting: BinaryHeap::new(memory.alloc()),
-    };
-    dijkstra.begin(abstraction);
-    for _ in 0..u64::MAX {
-        let Some(Reverse((distance, state))) = dijkstra.waiting.pop() else {
-            break;
-        };
-        if distance_of(&dijkstra.distances, state) == distance {
-            dijkstra.relax(abstraction, state, distance);
+impl<'a> GoalDistances<'a> {
+    /// Room to find them in.
+    pub(crate) fn new(memory: &'a DraftMemory) -> GoalDistances<'a> {
+        GoalDistances {
+            memory,
+            costs: memory.list(),
+            waiting: BucketQueue::new(memory),
         }
     }
-    let Dijkstra { distances, .. } = dijkstra;
-    distances
-}
 
-impl Dijkstra<'_> {
+    /// The memory that they take.
+    pub(crate) fn memory(&self) -> &'a DraftMemory {
+        self.memory
+    }
+
+    /// The goal distance of each abstract state under the remaining costs.
+    pub(crate) fn of(&mut self, abstraction: &RowGraph, costs: &Costs) -> Vec<i64> {
+        self.find_costs(abstraction, costs);
+        let mut distances = self.memory.filled(NO_WAY, abstraction.state_count());
+        self.begin(abstraction, &mut distances);
+        for _ in 0..u64::MAX {
+            let Some(Queued { key, number }) = self.waiting.pop() else {
+                break;
+            };
+            let distance = i64::try_from(key).unwrap_or(NO_WAY);
+            if distance_of(&distances, number) == distance {
+                self.relax(abstraction, number, &mut distances);
+            }
+        }
+        distances
+    }
+
+    /// Finds the remaining cost of each class.
+    fn find_costs(&mut self, abstraction: &RowGraph, costs: &Costs) {
+        self.costs.clear();
+        for class in abstraction.classes() {
+            let cost = costs.of_class(abstraction, class);
+            self.memory.push(&mut self.costs, cost);
+        }
+    }
+
     /// Begins at the abstract states that the goal allows.
-    fn begin<A: Abstraction>(&mut self, abstraction: &A) {
-        for (place, distance) in self.distances.iter_mut().enumerate() {
-            if let Ok(state) = u32::try_from(place) {
-                if abstraction.is_goal(state) {
-                    *distance = 0;
-                    self.memory.kept(self.waiting.push(Reverse((0, state))));
-                }
+    fn begin(&mut self, abstraction: &RowGraph, distances: &mut [i64]) {
+        self.waiting.clear();
+        for (place, distance) in distances.iter_mut().enumerate() {
+            let number = number_of(place);
+            if abstraction.is_goal(number) {
+                *distance = 0;
+                self.waiting.push(self.memory, Queued { key: 0, number });
             }
         }
     }
 
-    /// Relaxes the arcs that lead to this abstract state, which has this goal distance.
-    fn relax<A: Abstraction>(&mut self, abstraction: &A, state: u32, distance: i64) {
+    /// Relaxes the arcs that lead to this abstract state, whose goal distance is known.
+    fn relax(&mut self, abstraction: &RowGraph, state: u32, distances: &mut [i64]) {
+        let distance = distance_of(distances, state);
         for arc in abstraction.arcs_to(state) {
             if let Some(Some(cost)) = self.costs.get(place_of(arc.class)) {
                 let next = distance.saturating_add(*cost);
-                if let Some(before) = self.distances.get_mut(place_of(arc.from)) {
+                if let Some(before) = distances.get_mut(place_of(arc.from)) {
                     if next < *before {
                         *before = next;
-                        self.memory
-                            .kept(self.waiting.push(Reverse((next, arc.from))));
+                        let queued = Queued {
+                            key: next.unsigned_abs(),
+                            number: arc.from,
+                        };
+                        self.waiting.push(self.memory, queued);
                     }
                 }
             }
         }
     }
+}
+
+/// Whether some abstract state has a path to the goal, and is not at no distance from it.
+pub(crate) fn are_some_far(distances: &[i64]) -> bool {
+    distances
+        .iter()
+        .any(|distance| *distance > 0 && *distance != NO_WAY)
 }
 
 /// The distance of the abstract state with this number.
@@ -81,25 +106,11 @@ pub(crate) fn distance_of(distances: &[i64], state: u32) -> i64 {
     }
 }
 
-/// The remaining cost of each class; `None` if all its instances are shut out.
-fn class_costs<A: Abstraction>(
-    memory: &DraftMemory,
-    abstraction: &A,
-    costs: &Costs,
-) -> Vec<Option<i64>> {
-    let classes = abstraction.classes();
-    let mut found = memory.filled(None, classes.len());
-    for (cost, class) in found.iter_mut().zip(classes) {
-        *cost = costs.of_class(abstraction, class);
-    }
-    found
-}
-
 /// Subtracts the saturated costs from the costs: for each class the greatest decrease of the distance along its arcs. It may be
 /// negative, in which case the cost grows.
-pub(crate) fn take_saturated<A: Abstraction>(
+pub(crate) fn take_saturated(
     memory: &DraftMemory,
-    abstraction: &A,
+    abstraction: &RowGraph,
     distances: &[i64],
     costs: &mut Costs,
 ) {
@@ -116,9 +127,9 @@ pub(crate) fn take_saturated<A: Abstraction>(
 }
 
 /// The sum of the saturated costs, without the instances that are shut out.
-pub(crate) fn saturated_sum<A: Abstraction>(
+pub(crate) fn saturated_sum(
     memory: &DraftMemory,
-    abstraction: &A,
+    abstraction: &RowGraph,
     distances: &[i64],
     costs: &Costs,
 ) -> i64 {
@@ -136,9 +147,9 @@ pub(crate) fn saturated_sum<A: Abstraction>(
 }
 
 /// The saturated cost of each class; `None` if it has no effect.
-pub(crate) fn saturated_costs<A: Abstraction>(
+pub(crate) fn saturated_costs(
     memory: &DraftMemory,
-    abstraction: &A,
+    abstraction: &RowGraph,
     distances: &[i64],
 ) -> Vec<Option<i64>> {
     let mut saturated = unsaturated(memory, abstraction.classes());

@@ -1,9 +1,9 @@
 //! The search for orders that give states great values.
 use crate::cost_partition::CostPartition;
 use crate::costs::Costs;
-use crate::goal_distances::{NO_WAY, distance_of, distances, saturated_sum};
+use crate::goal_distances::{GoalDistances, NO_WAY, distance_of, saturated_sum};
 use crate::orders::{Order, Worth};
-use abstractions::Abstraction;
+use abstractions::RowGraph;
 use faults::DraftMemory;
 use potentials_drafted::RandomGenerator;
 
@@ -16,9 +16,10 @@ pub(crate) type AbstractStates = Vec<u32>;
 
 /// The search for orders: tables, costs of instances, and the states whose values are to be raised.
 #[derive(Drop)]
-pub(crate) struct Partitioner<'a, A> {
+pub(crate) struct Partitioner<'a> {
     memory: &'a DraftMemory,
-    abstractions: &'a [A],
+    finder: GoalDistances<'a>,
+    abstractions: &'a [RowGraph],
     costs: &'a Costs,
     /// The first is the initial state.
     states: &'a [AbstractStates],
@@ -54,16 +55,17 @@ impl Merit {
     }
 }
 
-impl<'a, A: Abstraction> Partitioner<'a, A> {
+impl<'a> Partitioner<'a> {
     /// A search for these tables, costs and states.
     pub(crate) fn new(
         memory: &'a DraftMemory,
-        abstractions: &'a [A],
+        abstractions: &'a [RowGraph],
         costs: &'a Costs,
         states: &'a [AbstractStates],
-    ) -> Partitioner<'a, A> {
+    ) -> Partitioner<'a> {
         let mut partitioner = Partitioner {
             memory,
+            finder: GoalDistances::new(memory),
             abstractions,
             costs,
             states,
@@ -83,9 +85,9 @@ impl<'a, A: Abstraction> Partitioner<'a, A> {
     }
 
     /// Records the values and the saturated costs of the table if it comes first.
-    fn add(&mut self, table: usize, abstraction: &A) {
+    fn add(&mut self, table: usize, abstraction: &RowGraph) {
         let memory = self.memory;
-        let distances = distances(memory, abstraction, self.costs);
+        let distances = self.finder.of(abstraction, self.costs);
         let mut given = memory.filled(0, self.states.len());
         for (value, state) in given.iter_mut().zip(self.states) {
             if let Some(number) = state.get(table) {
@@ -109,7 +111,7 @@ impl<'a, A: Abstraction> Partitioner<'a, A> {
     }
 
     /// Counts a pass over the abstraction as work.
-    fn count(&mut self, abstraction: &A) {
+    fn count(&mut self, abstraction: &RowGraph) {
         self.work = self.work.saturating_add(abstraction.size() as u64);
     }
 
@@ -144,7 +146,12 @@ impl<'a, A: Abstraction> Partitioner<'a, A> {
                 self.count(abstraction);
             }
         }
-        CostPartition::new(self.memory, self.abstractions, order, self.costs)
+        self.partition(order, self.costs)
+    }
+
+    /// The partition of these costs by this order.
+    pub(crate) fn partition(&mut self, order: &Order, costs: &Costs) -> CostPartition {
+        CostPartition::new(&mut self.finder, self.abstractions, order, costs)
     }
 
     /// The value of each state by the partition; 0 if the state is a known dead end.

@@ -1,6 +1,6 @@
 //! States whose values are to be raised.
 use crate::partitioner::AbstractStates;
-use abstractions::{Abstraction, Variables, place_of};
+use abstractions::{RowGraph, Variables, place_of};
 use faults::DraftMemory;
 
 /// Sampled states, the initial state first: their true atoms, and their abstract states by table index.
@@ -37,9 +37,9 @@ fn values_of(memory: &DraftMemory, variables: &Variables, atoms: &[u32]) -> Vec<
 }
 
 /// The abstract states of each of the states, by table index.
-pub(crate) fn abstract_states_of_all<A: Abstraction>(
+pub(crate) fn abstract_states_of_all(
     memory: &DraftMemory,
-    abstractions: &[A],
+    abstractions: &[RowGraph],
     states: &[Vec<u32>],
 ) -> Vec<AbstractStates> {
     let mut all = memory.list();
