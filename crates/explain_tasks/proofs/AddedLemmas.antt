@@ -1,7 +1,7 @@
 -- Sets that gain atoms, one element of a list after another, and the atoms of the goal that pass two tests alike.
-use Rattle.std.proofs.Common.{◌≡◌, ◌∙◌, ℕ, ◌+◌, ◌<◌, ◌≤◌, Bool, true, false, not, ◌&&◌, ◌||◌, List, [], ◌∷◌, ◌++◌, cond, get_or, length, map, take, refl, sym, ap, subst}
+use Rattle.std.proofs.Common.{◌≡◌, ◌∙◌, ℕ, ◌+◌, ◌<◌, ◌≤◌, Bool, true, false, not, ◌&&◌, ◌||◌, List, [], ◌∷◌, cond, get_or, length, map, take, refl, sym, ap}
 use Rattle.std.specs.Prelude.{filter}
-use Rattle.std.specs.List.{flat_map, list_any}
+use Rattle.std.specs.List.{list_any}
 use Rattle.std.specs.FinSet.{contains, empty, insert, contains-empty, contains-insert}
 use Rattle.std.specs.Ordering.{eq_by_cmp}
 use Rattle.std.specs.Cmp.{eq_by_cmp_equiv}
@@ -10,13 +10,12 @@ use Rattle.std.proofs.lemmas.List.Folds.{list_any_more}
 use Rattle.formulas.proofs.Trees.{list_any_map}
 use Rattle.model.specs.Task.{Task, Atom}
 use Rattle.model.specs.Meaning.{State, atom_cmp, initial_state}
-use Rattle.model.specs.SureLiterals.{Literal}
 use Rattle.model.specs.NumberedAtoms.{occurs_in}
 use Rattle.model.specs.StaticallyFalse.{kept_instances}
-use Rattle.model.proofs.Atoms.{atoms_total, occurs_in-append}
+use Rattle.model.proofs.Atoms.{atoms_total}
 use Rattle.model.proofs.StaticLemmas.{or_false, same_atom}
-use Rattle.model.proofs.NumberingLemmas.{occurs_in-flat_map_any, same_itself}
-use Rattle.explain_tasks.specs.Goals.{Gains, GainsAsked, atom_asked_for, atoms_asked_for, goal_atoms, is_added_by, is_never_true, is_neither}
+use Rattle.model.proofs.NumberingLemmas.{same_itself}
+use Rattle.explain_tasks.specs.Goals.{Gains, GainsAsked, is_added_by, is_never_true, is_neither}
 
 -- ---- one atom
 

@@ -1,5 +1,8 @@
 pub mod TableLemmas
+pub mod PredicateLemmas
 pub mod CostLemmas
+pub mod GoalLemmas
+pub mod ConjunctLemmas
 pub mod FoldLemmas
 pub mod CountLemmas
 pub mod LackingLemmas

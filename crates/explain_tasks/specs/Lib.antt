@@ -1,6 +1,11 @@
 pub mod Mentions
 pub mod Unused
+pub mod Predicates
 pub mod Costs
+pub mod Conjuncts
+pub mod Inhabited
+pub mod Actions
+pub mod StartGoal
 pub mod Goals
 pub mod Notes
 pub mod NoteLines

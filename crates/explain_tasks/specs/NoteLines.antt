@@ -10,6 +10,7 @@ use Rattle.formulas.specs.State.{instance_of}
 use Rattle.model.specs.Task.{Task, Name, Atom, LiftedAtom, Increase, by_number, by_function, Instance, Schema}
 use Rattle.model.specs.Meaning.{object_of}
 use Rattle.model.specs.PlanWriting.{object_name, schema_name}
+use Rattle.explain_tasks.specs.declared.actions.ActionNotes.{ActionNotes}
 use Rattle.explain_tasks.specs.declared.ground_notes.GroundNotes.{GroundNotes}
 use Rattle.explain_tasks.specs.declared.notes.TaskNotes.{TaskNotes}
 
@@ -45,12 +46,36 @@ names_line opening name_of (first ∷ rest) = utf8_lossy (opening ++ names_text 
 
 -- ---- the notes that the files lead to, in order
 
-abbrev pub task_lines : Task → TaskNotes → List (List ℕ)
-task_lines t notes =
+abbrev pub predicate_lines : Task → TaskNotes → List (List ℕ)
+predicate_lines t notes =
+    names_line (codes "Predicates that no precondition, no condition and no goal asks for: ") (predicate_name t) notes.unasked_predicates.items
+    ++ (names_line (codes "Predicates that are asked for, but that neither `:init` nor an action makes true: ") (predicate_name t) notes.never_true_predicates.items
+    ++ names_line (codes "Predicates of `:init` that are asked for, and that actions delete but none adds: ") (predicate_name t) notes.only_deleted_predicates.items)
+
+abbrev pub cost_lines : Task → TaskNotes → List (List ℕ)
+cost_lines t notes =
     line_if notes.ignores_costs (codes "Actions increase the total cost, but the problem has no `:metric`, so each step costs 1.")
     ++ (line_if notes.lacks_costs (codes "The problem has a `:metric`, but no action increases the total cost, so every plan costs 0.")
-    ++ (names_line (codes "Predicates that no precondition, no condition and no goal asks for: ") (predicate_name t) notes.unasked_predicates.items
-    ++ names_line (codes "Objects that no atom of `:init`, no action and no goal names: ") (object_name t) notes.unnamed_objects.items))
+    ++ names_line (codes "Actions that do not increase the total cost, although others do: ") (schema_name t) notes.actions.free.items)
+
+abbrev pub action_lines : Task → ActionNotes → List (List ℕ)
+action_lines t notes =
+    names_line (codes "Actions that ask for an atom and for its negation: ") (schema_name t) notes.contradictory.items
+    ++ (names_line (codes "Actions with a parameter for which there is no object: ") (schema_name t) notes.uninhabited.items
+    ++ names_line (codes "Actions that delete and add the same atom, of which the addition counts: ") (schema_name t) notes.undoing.items)
+
+abbrev pub goal_lines : TaskNotes → List (List ℕ)
+goal_lines notes =
+    line_if notes.has_empty_goal (codes "The goal is empty, so it is true at the start.")
+    ++ line_if notes.starts_at_goal (codes "The goal is true at the start.")
+
+abbrev pub task_lines : Task → TaskNotes → List (List ℕ)
+task_lines t notes =
+    cost_lines t notes
+    ++ (predicate_lines t notes
+    ++ (names_line (codes "Objects that no atom of `:init`, no action and no goal names: ") (object_name t) notes.unnamed_objects.items
+    ++ (action_lines t notes.actions
+    ++ goal_lines notes)))
 
 -- ---- the notes that the kept instances lead to, in order
 

@@ -23,7 +23,7 @@ pub(crate) fn lacks_costs(task: &Task) -> bool
 }
 
 /// Whether some action increases the total cost.
-fn some_is_costly(task: &Task) -> bool
+pub(crate) fn some_is_costly(task: &Task) -> bool
     ensures { result ≡ list_any (λ (s : Schema). defined.is_costly s.increase) (task_of task.now).schemas }
 {
     for number in 0..task.schema_count() {
@@ -38,7 +38,7 @@ fn some_is_costly(task: &Task) -> bool
 }
 
 /// Whether the increase is by more than 0, or by a function.
-fn is_costly(increase: &Increase) -> bool
+pub(crate) fn is_costly(increase: &Increase) -> bool
     ensures { result ≡ defined.is_costly (increase_of increase.now) }
 {
     match increase {

@@ -11,6 +11,7 @@ ghost use Rattle.explain_tasks.specs.KindNames.{name_by};
 ghost use Rattle.explain_tasks.specs.NoteLines as note;
 ghost use Rattle.explain_tasks.specs.NoteLines.{line_if};
 
+use crate::actions::ActionNotes;
 use crate::ground_notes::{GroundNotes, MOST_NOTES};
 use crate::notes::TaskNotes;
 use faults::NoMemory;
@@ -28,8 +29,13 @@ impl TaskNotes {
     /// ```text
     /// Actions increase the total cost, but the problem has no `:metric`, so each step costs 1.
     /// The problem has a `:metric`, but no action increases the total cost, so every plan costs 0.
+    /// Actions that do not increase the total cost, although others do: rest.
     /// Predicates that no precondition, no condition and no goal asks for: dirty.
+    /// Predicates that are asked for, but that neither `:init` nor an action makes true: loaded.
+    /// Predicates of `:init` that are asked for, and that actions delete but none adds: fuel.
     /// Objects that no atom of `:init`, no action and no goal names: truck3, truck4.
+    /// Actions that delete and add the same atom, of which the addition counts: refuel.
+    /// The goal is true at the start.
     /// ```
     pub fn add_lines(
         &self,
@@ -39,48 +45,99 @@ impl TaskNotes {
     ) -> Result<(), NoMemory>
         ensures { OnOk result (map string_bytes lines.new.items ≡ map string_bytes lines.old.items ++ note.task_lines (task_of task.now) self.now) }
     {
-        self.add_ignored_costs(alloc, lines)?;
-        self.add_lacking_costs(alloc, lines)?;
+        self.add_costs(alloc, task, lines)?;
+        self.add_predicates(alloc, task, lines)?;
+        let unnamed = NameList {
+            opening: "Objects that no atom of `:init`, no action and no goal names: ",
+            kind: Kind::Object,
+            numbers: &self.unnamed_objects,
+        };
+        unnamed.add(alloc, task, lines)?;
+        self.actions.add_lines(alloc, task, lines)?;
+        self.add_goal(alloc, lines)
+    }
+
+    /// Adds the lines about costs.
+    fn add_costs(&self, alloc: Global, task: &Task, lines: &mut Vec<String>) -> Result<(), NoMemory>
+        ensures { OnOk result (map string_bytes lines.new.items ≡ map string_bytes lines.old.items ++ note.cost_lines (task_of task.now) self.now) }
+    {
+        let ignored =
+            "Actions increase the total cost, but the problem has no `:metric`, so each step costs 1.";
+        add_text_if(alloc, self.ignores_costs, ignored, lines)?;
+        let lacking =
+            "The problem has a `:metric`, but no action increases the total cost, so every plan costs 0.";
+        add_text_if(alloc, self.lacks_costs, lacking, lines)?;
+        let free = NameList {
+            opening: "Actions that do not increase the total cost, although others do: ",
+            kind: Kind::Action,
+            numbers: &self.actions.free,
+        };
+        free.add(alloc, task, lines)
+    }
+
+    /// Adds the lines about predicates.
+    fn add_predicates(
+        &self,
+        alloc: Global,
+        task: &Task,
+        lines: &mut Vec<String>,
+    ) -> Result<(), NoMemory>
+        ensures { OnOk result (map string_bytes lines.new.items ≡ map string_bytes lines.old.items ++ note.predicate_lines (task_of task.now) self.now) }
+    {
         let unasked = NameList {
             opening: "Predicates that no precondition, no condition and no goal asks for: ",
             kind: Kind::Predicate,
             numbers: &self.unasked_predicates,
         };
         unasked.add(alloc, task, lines)?;
-        let unnamed = NameList {
-            opening: "Objects that no atom of `:init`, no action and no goal names: ",
-            kind: Kind::Object,
-            numbers: &self.unnamed_objects,
+        let never_true = NameList {
+            opening: "Predicates that are asked for, but that neither `:init` nor an action makes true: ",
+            kind: Kind::Predicate,
+            numbers: &self.never_true_predicates,
         };
-        unnamed.add(alloc, task, lines)
+        never_true.add(alloc, task, lines)?;
+        let only_deleted = NameList {
+            opening: "Predicates of `:init` that are asked for, and that actions delete but none adds: ",
+            kind: Kind::Predicate,
+            numbers: &self.only_deleted_predicates,
+        };
+        only_deleted.add(alloc, task, lines)
     }
 
-    /// Adds the line about costs that are not minimized, if there are such.
-    fn add_ignored_costs(&self, alloc: Global, lines: &mut Vec<String>) -> Result<(), NoMemory>
-        ensures { OnOk result (map string_bytes lines.new.items ≡ map string_bytes lines.old.items
-            ++ line_if self.now.ignores_costs (codes "Actions increase the total cost, but the problem has no `:metric`, so each step costs 1.")) }
+    /// Adds the line about a goal that is true at the start.
+    fn add_goal(&self, alloc: Global, lines: &mut Vec<String>) -> Result<(), NoMemory>
+        ensures { OnOk result (map string_bytes lines.new.items ≡ map string_bytes lines.old.items ++ note.goal_lines self.now) }
     {
-        if self.ignores_costs {
-            let line =
-                "Actions increase the total cost, but the problem has no `:metric`, so each step costs 1.";
-            add_text(alloc, line, lines)
-        } else {
-            Ok(())
-        }
+        let empty = "The goal is empty, so it is true at the start.";
+        add_text_if(alloc, self.has_empty_goal, empty, lines)?;
+        let at_start = "The goal is true at the start.";
+        add_text_if(alloc, self.starts_at_goal, at_start, lines)
     }
+}
 
-    /// Adds the line about costs that are minimized though there are none, if it is so.
-    fn add_lacking_costs(&self, alloc: Global, lines: &mut Vec<String>) -> Result<(), NoMemory>
-        ensures { OnOk result (map string_bytes lines.new.items ≡ map string_bytes lines.old.items
-            ++ line_if self.now.lacks_costs (codes "The problem has a `:metric`, but no action increases the total cost, so every plan costs 0.")) }
+impl ActionNotes {
+    /// Adds the lines about actions, but for those about costs.
+    fn add_lines(&self, alloc: Global, task: &Task, lines: &mut Vec<String>) -> Result<(), NoMemory>
+        ensures { OnOk result (map string_bytes lines.new.items ≡ map string_bytes lines.old.items ++ note.action_lines (task_of task.now) self.now) }
     {
-        if self.lacks_costs {
-            let line =
-                "The problem has a `:metric`, but no action increases the total cost, so every plan costs 0.";
-            add_text(alloc, line, lines)
-        } else {
-            Ok(())
-        }
+        let contradictory = NameList {
+            opening: "Actions that ask for an atom and for its negation: ",
+            kind: Kind::Action,
+            numbers: &self.contradictory,
+        };
+        contradictory.add(alloc, task, lines)?;
+        let uninhabited = NameList {
+            opening: "Actions with a parameter for which there is no object: ",
+            kind: Kind::Action,
+            numbers: &self.uninhabited,
+        };
+        uninhabited.add(alloc, task, lines)?;
+        let undoing = NameList {
+            opening: "Actions that delete and add the same atom, of which the addition counts: ",
+            kind: Kind::Action,
+            numbers: &self.undoing,
+        };
+        undoing.add(alloc, task, lines)
     }
 }
 
@@ -389,6 +446,22 @@ fn add_function(
     }
     line.extend_from_slice(b")")?;
     Ok(())
+}
+
+/// Adds the line, if it is so.
+fn add_text_if(
+    alloc: Global,
+    is_so: bool,
+    line: &str,
+    lines: &mut Vec<String>,
+) -> Result<(), NoMemory>
+    ensures { OnOk result (map string_bytes lines.new.items ≡ map string_bytes lines.old.items ++ line_if is_so line.now) }
+{
+    if is_so {
+        add_text(alloc, line, lines)
+    } else {
+        Ok(())
+    }
 }
 
 /// Adds the line.

@@ -4,7 +4,6 @@ use Rattle.std.specs.List.{list_any}
 use Rattle.task.specs.Task.{task_of}
 use Rattle.formulas.specs.Effects.{change_of}
 use Rattle.formulas.specs.State.{instance_of, state_of}
-use Rattle.formulas.proofs.Trees.{list_any_map}
 use Rattle.model.specs.Meaning.{is_instance}
 use Rattle.model.proofs.Tests.{passes_at, passes_map}
 use Rattle.explain_tasks.specs.Goals.{change_makes_true, is_added_by}

@@ -1,4 +1,4 @@
-use Rattle.std.proofs.Common.{◌∙◌, true, map, ap, sym}
+use Rattle.std.proofs.Common.{◌∙◌, true, map, sym}
 use Rattle.std.specs.FinSet.{empty}
 use Rattle.std.specs.List.{list_any}
 use Rattle.formulas.specs.Literals.{literal_of}

@@ -1,4 +1,3 @@
-use Rattle.std.proofs.Common.{◌∙◌, sym}
 use Rattle.std.specs.FinSet.{contains}
 use Rattle.formulas.specs.Effects.{change_of}
 use Rattle.formulas.specs.State.{state_of}

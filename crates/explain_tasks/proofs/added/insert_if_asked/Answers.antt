@@ -1,5 +1,5 @@
 use Rattle.std.proofs.Common.{◌∙◌, ◌&&◌, sym}
-use Rattle.std.specs.Prelude.{◌∷◌, [], OnOk}
+use Rattle.std.specs.Prelude.{◌∷◌, []}
 use Rattle.std.specs.FinSet.{contains}
 use Rattle.std.specs.Ordering.{eq_by_cmp}
 use Rattle.std.proofs.lemmas.Result.{on_ok_weaker}

@@ -1,5 +1,5 @@
-use Rattle.std.proofs.Common.{◌≡◌, ◌∙◌, [], ap, map, sym, subst, arith}
-use Rattle.std.specs.Prelude.{◌||◌, ◌&&◌, IfOk, filter, take}
+use Rattle.std.proofs.Common.{◌≡◌, ◌∙◌, [], ap, map, subst, arith}
+use Rattle.std.specs.Prelude.{◌||◌, ◌&&◌, IfOk, take}
 use Rattle.std.specs.FinSet.{contains, empty}
 use Rattle.std.specs.List.{fold, list_all, list_any}
 use Rattle.task.specs.TaskParts.{atom_of, object_of}
@@ -12,7 +12,7 @@ use Rattle.model.specs.Meaning.{State, is_instance}
 use Rattle.model.specs.NumberedAtoms.{occurs_in}
 use Rattle.model.specs.SureLiterals.{sure}
 use Rattle.model.specs.StaticallyFalse.{kept_instances}
-use Rattle.explain_tasks.specs.Goals.{Gains, GainsAsked, atoms_asked_for, first_missing, goal_atoms, is_added_by, is_neither, with_passing}
+use Rattle.explain_tasks.specs.Goals.{Gains, GainsAsked, atoms_asked_for, goal_atoms, is_added_by, is_neither, with_passing}
 use Rattle.explain_tasks.proofs.AddedLemmas.{decided_alike}
 use Rattle.explain_tasks.proofs.FoldLemmas.{gathered}
 use Rattle.explain_tasks.proofs.added.missing_goals.Goals.{In_ok-literals}

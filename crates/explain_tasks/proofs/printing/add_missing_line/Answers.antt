@@ -1,4 +1,4 @@
-use Rattle.std.proofs.Common.{◌≡◌, ◌∙◌, ◌++◌, ◌∷◌, [], List, ℕ, ap, map, subst}
+use Rattle.std.proofs.Common.{◌≡◌, ◌∙◌, ◌++◌, ◌∷◌, [], List, ℕ, map, subst}
 use Rattle.std.specs.Prelude.{codes, OnOk}
 use Rattle.std.specs.Str.Lossy.{utf8_lossy}
 use Rattle.std.specs.String.{string_bytes}
