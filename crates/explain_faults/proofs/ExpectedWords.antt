@@ -1,5 +1,5 @@
 -- Words that may follow those before an offset may occur there, and none is left out.
-use Rattle.std.specs.Prelude.{◌≡◌, ℕ, List, All, Result, Ok, Err, IfOk, map}
+use Rattle.std.specs.Prelude.{◌≡◌, ◌≤◌, ℕ, List, length, All, Result, Ok, Err, IfOk, map}
 use Rattle.std.proofs.Common.{◌∙◌, ap, inr, subst, sym}
 use Rattle.std.specs.Global.{Vec}
 use Rattle.tokens.specs.Word.{word_of}
@@ -13,7 +13,7 @@ use Rattle.explain_hints.specs.declared.texts.NamedTexts.{NamedTexts}
 use Rattle.explain_hints.specs.ReportedBytes.{reported_in}
 use Rattle.explain_hints.specs.Refusals.{FileRefusal}
 use Rattle.explain_faults.specs.Explained.{AreWhole}
-use Rattle.explain_faults.specs.Expected.{AreSuggested, AreReportedIn, MayFollow, MayOccur, words_before}
+use Rattle.explain_faults.specs.Expected.{AreSuggested, AreReportedIn, MayFollow, MayOccur, longest_reread, words_before}
 
 module _ (file : TaskFile) (text : List ℕ) (offset : ℕ) (words items before : List Word) (reads : ReadsAs text (map word_of words)) (same : items ≡ words) (are : before ≡ words_before offset items) where
   occur : before ≡ words_before offset words
@@ -31,23 +31,23 @@ module _ (file : TaskFile) (text : List ℕ) (offset : ℕ) (words items before 
 -- what is reported at a place of a text is reported for its file
 module _ {E : Type 0} (texts : NamedTexts) (fault : FileRefusal) (reported : List ℕ) (same : reported ≡ reported_in (text_in texts fault.file) fault.span.start fault.span.end) where
   pub whole_in_domain : (r : Result (Vec Word) E) → fault.file ≡ Domain
-      → (Reads (text_in texts Domain) → IfOk r (λ allowed. AreReportedIn domain_file (text_in texts Domain) fault.span.start reported allowed.items))
+      → (length (text_in texts Domain) ≤ longest_reread → Reads (text_in texts Domain) → IfOk r (λ allowed. AreReportedIn domain_file (text_in texts Domain) fault.span.start reported allowed.items))
       → IfOk r (λ allowed. AreWhole texts fault allowed.items)
   whole_in_domain (Ok allowed) is suggested =
       let bytes : reported ≡ reported_in (text_in texts Domain) fault.span.start fault.span.end =
       same ∙ ap (λ (f : File). reported_in (text_in texts f) fault.span.start fault.span.end) is in (
-        λ here reads. subst (λ (b : List ℕ). AreReportedIn domain_file (text_in texts Domain) fault.span.start b allowed.items) bytes (suggested reads),
+        λ here short reads. subst (λ (b : List ℕ). AreReportedIn domain_file (text_in texts Domain) fault.span.start b allowed.items) bytes (suggested short reads),
         λ other. absurd (let both : Domain ≡ Problem = sym is ∙ other in cc),
       )
   whole_in_domain (Err e) is suggested = tt
 
   pub whole_in_problem : (r : Result (Vec Word) E) → fault.file ≡ Problem
-      → (Reads (text_in texts Problem) → IfOk r (λ allowed. AreReportedIn problem_file (text_in texts Problem) fault.span.start reported allowed.items))
+      → (length (text_in texts Problem) ≤ longest_reread → Reads (text_in texts Problem) → IfOk r (λ allowed. AreReportedIn problem_file (text_in texts Problem) fault.span.start reported allowed.items))
       → IfOk r (λ allowed. AreWhole texts fault allowed.items)
   whole_in_problem (Ok allowed) is suggested =
       let bytes : reported ≡ reported_in (text_in texts Problem) fault.span.start fault.span.end =
       same ∙ ap (λ (f : File). reported_in (text_in texts f) fault.span.start fault.span.end) is in (
         λ other. absurd (let both : Problem ≡ Domain = sym is ∙ other in cc),
-        λ here reads. subst (λ (b : List ℕ). AreReportedIn problem_file (text_in texts Problem) fault.span.start b allowed.items) bytes (suggested reads),
+        λ here short reads. subst (λ (b : List ℕ). AreReportedIn problem_file (text_in texts Problem) fault.span.start b allowed.items) bytes (suggested short reads),
       )
   whole_in_problem (Err e) is suggested = tt

@@ -1,9 +1,20 @@
 -- Where a text with unbalanced parentheses goes wrong.
-use Rattle.std.specs.Prelude.{◌≡◌, ℕ, List, ◌++◌, ◌<◌, ◌≤◌, length, take, Option, None, Some, IfSome}
-use Rattle.std.proofs.Common.{subst}
+use Rattle.std.specs.Prelude.{◌≡◌, ℕ, List, ◌++◌, ◌<◌, ◌≤◌, length, map, take, Option, None, Some, IfSome}
+use Rattle.std.proofs.Common.{subst, sym}
 use Rattle.faults.specs.declared.refused.TextRefusal.{TextRefusal}
+use Rattle.tokens.specs.Word.{word_of}
+use Rattle.tokens.specs.declared.word.Word.{Word}
+use Rattle.model.specs.Words.{ReadsAs}
 use Rattle.model.specs.Trees.{TaskFile}
+use Rattle.explain_words.specs.Verdict.{IsVerdict}
 use Rattle.explain_faults.specs.Wrong.{GoesWrong, IsRefusedIn}
+
+-- what is refused in the words of a text is refused in the text
+pub refused_in : (file : TaskFile) (text : List ℕ) (words read : List Word) (found : Option TextRefusal) → ReadsAs text (map word_of words) → read ≡ words
+    → IsVerdict file (map word_of read) found → IfSome found (IsRefusedIn file text)
+refused_in file text words read None reads same verdict = tt
+refused_in file text words read (Some refusal) reads same verdict =
+    record { words = read; reads = subst (λ (w : List Word). ReadsAs text (map word_of w)) (sym same) reads; is_refused = verdict }
 
 -- a text goes wrong where a prefix of it with an ending is refused at a word of the prefix
 pub goes_wrong : (file : TaskFile) (text whole ending : List ℕ) (kept : ℕ) (found result : Option TextRefusal)

@@ -22,6 +22,10 @@ pub record MayOccurIn (file : TaskFile) (text : List ℕ) (offset : ℕ) (allowe
   pub reads : ReadsAs text (map word_of words)
   pub follow : All (MayFollow file (words_before offset words)) allowed
 
+-- the maximum length of a text that is read again for each candidate, in bytes
+abbrev pub longest_reread : ℕ
+longest_reread = 1048576
+
 -- the words may occur there, or none are reported
 abbrev pub MayOccur : TaskFile → List ℕ → ℕ → List code.Word → Type 0
 MayOccur file text offset allowed = (allowed ≡ []) ⊎ MayOccurIn file text offset allowed

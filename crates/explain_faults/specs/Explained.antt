@@ -1,5 +1,5 @@
 -- The explanation of a fault: the fault as given, and its place in its file.
-use Rattle.std.specs.Prelude.{◌≡◌, ℕ, ◌⊎◌, List, [], ◌++◌, codes, length, min, slice_range}
+use Rattle.std.specs.Prelude.{◌≡◌, ℕ, ◌≤◌, ◌⊎◌, List, [], ◌++◌, codes, length, min, slice_range}
 use Rattle.std.specs.Fmt.{decimal}
 use Rattle.std.specs.Str.{IsAscii, IsNotAscii}
 use Rattle.faults.specs.Fault.{number_of}
@@ -15,7 +15,7 @@ use Rattle.explain_hints.specs.declared.texts.NamedTexts.{NamedTexts}
 use Rattle.explain_hints.specs.ReportedBytes.{reported_in}
 use Rattle.explain_hints.specs.Refusals.{FileRefusal}
 use Rattle.explain_faults.specs.declared.explanation.FaultExplanation.{FaultExplanation}
-use Rattle.explain_faults.specs.Expected.{MayOccur, AreReportedIn}
+use Rattle.explain_faults.specs.Expected.{MayOccur, AreReportedIn, longest_reread}
 use Rattle.tokens.specs.declared.word.Word.{Word}
 use Rattle.model.specs.Words.{Reads}
 use Rattle.model.specs.Trees.{domain_file, problem_file}
@@ -61,13 +61,13 @@ AreExpected texts fault allowed =
 abbrev pub IsOfWords : Code → Type 0
 IsOfWords code = (code ≡ BadForm) ⊎ (code ≡ UnknownSection) ⊎ (code ≡ UnknownRequirement)
 
--- For such a fault of a domain or a problem that reads as words, all candidates are reported that may occur at its place, or for
--- a keyword a non-empty selection of them.
+-- For such a fault of a domain or a problem that reads as words and is not too long, all candidates are reported that may occur at
+-- its place, or for a keyword a non-empty selection of them.
 abbrev pub AreWhole : NamedTexts → FileRefusal → List Word → Type 0
 AreWhole texts fault allowed =
-    (fault.file ≡ Domain → Reads (text_in texts Domain)
+    (fault.file ≡ Domain → length (text_in texts Domain) ≤ longest_reread → Reads (text_in texts Domain)
     → AreReportedIn domain_file (text_in texts Domain) fault.span.start (reported_in (text_in texts Domain) fault.span.start fault.span.end) allowed)
-    × (fault.file ≡ Problem → Reads (text_in texts Problem)
+    × (fault.file ≡ Problem → length (text_in texts Problem) ≤ longest_reread → Reads (text_in texts Problem)
     → AreReportedIn problem_file (text_in texts Problem) fault.span.start (reported_in (text_in texts Problem) fault.span.start fault.span.end) allowed)
 
 -- the explanation is of this fault, the place is that of the first byte of its span, and the reported words are exactly those

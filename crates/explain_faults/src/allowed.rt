@@ -1,8 +1,8 @@
 //! The words that may occur in place of an unexpected one.
-ghost use Rattle.std.specs.Prelude.{◌≡◌, All, IfOk, position};
+ghost use Rattle.std.specs.Prelude.{◌≡◌, ◌≤◌, All, IfOk, length, position};
 ghost use Rattle.model.specs.Words.{Reads};
 ghost use Rattle.pddl_tree.specs.Tree.{file_of};
-ghost use Rattle.explain_faults.specs.Expected.{AreSome, AreSuggested, AreReportedIn, MayFollow, MayOccur, begins_from, words_before};
+ghost use Rattle.explain_faults.specs.Expected.{AreSome, AreSuggested, AreReportedIn, MayFollow, MayOccur, begins_from, longest_reread, words_before};
 
 use explain_hints::is_near;
 use explain_words::expected;
@@ -10,6 +10,9 @@ use faults::{NoMemory, Refused};
 use pddl_tree::TaskFile;
 use std::alloc::Global;
 use tokens::{Word, scan};
+
+/// The maximum length of a text that is read again for each candidate, in bytes.
+const LONGEST_REREAD: usize = 1_048_576;
 
 /// What is refused in a text.
 #[derive(Clone, Copy)]
@@ -21,7 +24,7 @@ pub(crate) struct RefusedBytes<'t> {
 }
 
 /// The words that may occur in a file's text in place of the refused ones: for a keyword only the similar ones, if there are any.
-/// None if the text does not read as words.
+/// None if the text does not read as words, or is too long to be read again for each candidate.
 ///
 /// # Errors
 /// An allocation failed.
@@ -32,8 +35,11 @@ pub(crate) fn words_at<'a>(
     refused: RefusedBytes<'_>,
 ) -> Result<Vec<Word<'a>>, NoMemory>
     ensures occur { IfOk result (λ allowed. MayOccur (file_of file) text.now refused.entry.offset allowed.items) }
-    ensures suggested { Reads text.now → IfOk result (λ allowed. AreReportedIn (file_of file) text.now refused.entry.offset refused.entry.bytes.now allowed.items) }
+    ensures suggested { length text.now ≤ longest_reread → Reads text.now → IfOk result (λ allowed. AreReportedIn (file_of file) text.now refused.entry.offset refused.entry.bytes.now allowed.items) }
 {
+    if text.len() > LONGEST_REREAD {
+        return Ok(Vec::new(alloc));
+    }
     let words = match scan(alloc, text) {
         Ok(words) => words,
         Err(Refused::At(_)) => return Ok(Vec::new(alloc)),

@@ -1,19 +1,15 @@
 //! Where a text with unbalanced parentheses goes wrong as a file: usually next to the missing or surplus parenthesis, long before
 //! the place of the fault.
-ghost use Rattle.std.specs.Prelude.{◌≡◌, ◌++◌, ◌<◌, ◌≤◌, IfOk, IfSome, Some, length, map};
-ghost use Rattle.faults.specs.declared.refused.Refused.TheVariants.{At};
-ghost use Rattle.tokens.specs.Reported.{refusal_of};
-ghost use Rattle.tokens.specs.Word.{word_of};
-ghost use Rattle.model.specs.Trees.{domain_file, problem_file};
-ghost use Rattle.model.specs.Refusals.{IsRefused};
+ghost use Rattle.std.specs.Prelude.{◌≡◌, ◌++◌, ◌<◌, ◌≤◌, IfOk, IfSome, Some, length};
 ghost use Rattle.pddl_tree.specs.Tree.{file_of};
 ghost use Rattle.explain_faults.specs.Wrong.{GoesWrong, GoesWrongAt, IsRefusedIn};
 
 use explain_hints::{CutTexts, File, FileRefusal, NamedTexts, index_at, opening_of};
-use faults::{Code, Fault, NoMemory, Refused, Span, TextRefusal};
-use pddl_tree::{TaskFile, domain, problem};
+use explain_words::refused;
+use faults::{Code, NoMemory, Refused, Span, TextRefusal};
+use pddl_tree::TaskFile;
 use std::alloc::Global;
-use tokens::{Lexeme, Shape, Word, scan};
+use tokens::{Lexeme, Shape, scan};
 
 /// A line feed, which ends any comment, and as many `)` as lists may be open.
 const CLOSING: &[u8] = b"\n))))))))))))))))))))))))))))))))))))))))))))))))))))))))))))))))";
@@ -165,42 +161,8 @@ fn refused_in(alloc: Global, file: TaskFile, text: &[u8]) -> Result<Option<TextR
         Err(Refused::At(_)) => return Ok(None),
         Err(Refused::NoMemory) => return Err(NoMemory),
     };
-    match file {
-        TaskFile::Domain => refused_domain(alloc, &words),
-        TaskFile::Problem => refused_problem(alloc, &words),
-    }
-}
-
-/// What is wrong with words as a domain.
-fn refused_domain(alloc: Global, words: &[Word<'_>]) -> Result<Option<TextRefusal>, NoMemory>
-    ensures { IfOk result (λ found. IfSome found (λ r. IsRefused domain_file (map word_of words.now) (refusal_of r))) }
-{
-    let fault = match domain(alloc, words) {
-        Ok(_) => return Ok(None),
-        Err(fault) => fault,
-    };
-    refusal_in(fault)
-}
-
-/// What is wrong with words as a problem.
-fn refused_problem(alloc: Global, words: &[Word<'_>]) -> Result<Option<TextRefusal>, NoMemory>
-    ensures { IfOk result (λ found. IfSome found (λ r. IsRefused problem_file (map word_of words.now) (refusal_of r))) }
-{
-    let fault = match problem(alloc, words) {
-        Ok(_) => return Ok(None),
-        Err(fault) => fault,
-    };
-    refusal_in(fault)
-}
-
-/// The refusal in a fault.
-fn refusal_in(fault: Fault) -> Result<Option<TextRefusal>, NoMemory>
-    ensures { IfOk result (λ found. IfSome found (λ refusal. fault ≡ At refusal)) }
-{
-    match fault {
-        Refused::At(refusal) => Ok(Some(refusal)),
-        Refused::NoMemory => Err(NoMemory),
-    }
+    let found = refused(alloc, file, &words)?;
+    Ok(found)
 }
 
 /// An unexpected word, with its place within the lists of the text. An empty span means that lists are open.

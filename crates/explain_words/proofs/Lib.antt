@@ -1,5 +1,2 @@
-pub mod Automaton
-pub mod Left
-pub mod Levels
-pub mod Stacked
+pub mod Followed
 pub mod Reported

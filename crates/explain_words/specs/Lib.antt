@@ -1,3 +1,2 @@
 pub mod Expected
-pub mod Frames
-pub mod States
+pub mod Verdict
