@@ -203,12 +203,10 @@ impl<'w, 'a> Context<'w, 'a> {
         if self.fault.file == File::Plan {
             return Some(parameters(action_named(self.domain(), name)?));
         }
-        for declaration in Items::of(self.heads_declared()) {
-            if head_of(declaration).eq_ignore_ascii_case(name) {
-                return Some(Declarations::after_head(declaration));
-            }
+        match section(self.heads_declared(), name) {
+            [] => None,
+            declaration => Some(Declarations::after_head(declaration)),
         }
-        None
     }
 }
 

@@ -40,7 +40,9 @@ impl<'a> Context<'_, 'a> {
     /// Whether `tools/ipc-files` has another form for the construct.
     fn is_rewritable(self) -> bool {
         match self.fault.code {
-            Code::NegativeInit | Code::Shadowed | Code::UnknownRequirement => true,
+            Code::NegativeInit | Code::Shadowed => true,
+            Code::UnknownRequirement => !is_among(self.word, &REFUSED),
+            Code::UnknownType => self.is_parent(),
             Code::BadWord => is_name_elsewhere(self.word),
             Code::LeftOut => is_among(self.word, &REWRITABLE),
             Code::MissingSection => self.is_action_incomplete(),
@@ -141,6 +143,15 @@ fn of_other_plan<'a>() -> Hint<'a> {
 
 /// Words that are left out and for whose constructs `tools/ipc-files` has another form.
 static REWRITABLE: [&[u8]; 5] = [b":derived", b":length", b"total-time", b"forall", b"when"];
+
+/// Requirements of parts of PDDL that `tools/ipc-files` refuses, too.
+static REFUSED: [&[u8]; 5] = [
+    b":durative-actions",
+    b":preferences",
+    b":constraints",
+    b":open-world",
+    b":true-negation",
+];
 
 /// Whether a run that is not a word here is a name or a number in other planners' files: it contains `#` or `.`, or begins with a
 /// digit or an underscore, and begins no comment.

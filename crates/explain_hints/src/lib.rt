@@ -9,6 +9,7 @@ mod line;
 mod lists;
 mod marks;
 mod near;
+mod of_arguments;
 mod of_characters;
 mod of_forms;
 mod of_left_out;

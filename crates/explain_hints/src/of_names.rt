@@ -1,8 +1,8 @@
 //! Sentences about unknown names (codes 14, 15, 17, 32).
 use crate::context::Context;
 use crate::declarations::{Declarations, TypedName, action_name};
-use crate::lists::{Items, head};
-use crate::near::near;
+use crate::lists::{Items, head, head_of};
+use crate::near::{is_near, near};
 use crate::shown::{Chain, FilePlace, Name, NameList};
 use crate::texts::File;
 use std::alloc::AllocError;
@@ -54,6 +54,13 @@ impl Context<'_, '_> {
         let mut known = Vec::new(self.alloc);
         Declarations::after_head(self.section(b":types")).add_names(&mut known)?;
         self.add_unknown(TYPE, &known, out)
+    }
+
+    /// Whether an unknown type is the parent of another, and no declared type is similar.
+    pub(crate) fn is_parent(self) -> bool {
+        let is_in_types = head_of(self.list()).eq_ignore_ascii_case(b":types");
+        is_in_types
+            && !Declarations::after_head(self.list()).any(|one| is_near(self.word, one.name.text()))
     }
 
     /// Names the predicates, functions, variables or objects that may be meant by an unknown name.
@@ -184,7 +191,7 @@ fn variable_named<'a>(variables: &[TypedName<'_, 'a>], name: &[u8]) -> Option<&'
 }
 
 /// The parent that the declarations of types give this one, if it has one.
-fn parent_of<'a>(types: &[Lexeme<'a>], name: &[u8]) -> Option<&'a [u8]> {
+pub(crate) fn parent_of<'a>(types: &[Lexeme<'a>], name: &[u8]) -> Option<&'a [u8]> {
     let declared = Declarations::after_head(types).named(name)?;
     Some(declared.types.first()?.text())
 }

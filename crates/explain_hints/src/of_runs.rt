@@ -5,6 +5,9 @@ use crate::hint::{Hint, Sentence};
 pub(crate) const ARITHMETIC: &str =
     "a cost is a number or a function of objects; sums and products are not supported";
 
+/// What is said of a `:` in place of the dash before a type.
+const TYPE: &str = "a type follows `-`, as in `?x - type`";
+
 /// What a run that is no word may mean.
 pub(crate) fn of_run<'a>(run: &'a [u8]) -> Option<Hint<'a>> {
     if is_comment_elsewhere(run) {
@@ -14,6 +17,9 @@ pub(crate) fn of_run<'a>(run: &'a [u8]) -> Option<Hint<'a>> {
         b"<" | b">" | b"<=" | b">=" => "numeric conditions are not supported",
         b"+" | b"*" | b"/" => ARITHMETIC,
         b"?" => "no blank may follow the `?` of a variable",
+        b"==" => "equality is written with one `=`",
+        b":" => TYPE,
+        _ if run.starts_with(b"?") && run.contains(&b':') => TYPE,
         _ if is_number_elsewhere(run) => "a cost is a whole number of 0 or more",
         _ if run.starts_with(b"!") => "a negation is written `(not ..)`, without `!`",
         _ if run.contains(&b',') => "words are separated by blanks, not by commas",

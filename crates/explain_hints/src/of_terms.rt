@@ -1,7 +1,7 @@
 //! Sentences about wrong numbers and types of arguments (codes 18, 19, 33, 34), limits, costs, and the domain's name.
 use crate::context::Context;
-use crate::declarations::TypedName;
-use crate::lists::{Items, head, head_of, is_among};
+use crate::declarations::section;
+use crate::lists::{head_of, is_among};
 use crate::of_names::OBJECT;
 use crate::shown::{Name, Types};
 use std::alloc::AllocError;
@@ -9,7 +9,7 @@ use std::alloc::AllocError;
 /// What is said of a cost without a declaration.
 pub(crate) const UNDECLARED_COST: &str = "`:functions` does not declare `total-cost`.";
 
-impl<'w, 'a> Context<'w, 'a> {
+impl Context<'_, '_> {
     /// Says how many arguments are required, and how many are there.
     pub(crate) fn add_counts(self, out: &mut String) -> Result<(), AllocError> {
         let given = self.list().len().saturating_sub(3);
@@ -31,7 +31,7 @@ impl<'w, 'a> Context<'w, 'a> {
             return Ok(());
         };
         let variables = self.variables()?;
-        let Some(term) = self.term_among(&variables) else {
+        let Some(term) = self.term(self.word, &variables) else {
             return self.add_unknown_term(OBJECT, out);
         };
         let index = at.saturating_sub(open).saturating_sub(2);
@@ -45,16 +45,9 @@ impl<'w, 'a> Context<'w, 'a> {
         let (name, user) = (Name(self.word), Name(head_of(self.list())));
         write!(
             out,
-            "{name} has type {given}, but {user} requires {required}."
-        )
-    }
-
-    /// The declaration of the reported term, given the variables in scope.
-    fn term_among(self, variables: &[TypedName<'w, 'a>]) -> Option<TypedName<'w, 'a>> {
-        if !self.is_variable() {
-            return self.object(self.word);
-        }
-        variables.iter().find(|one| one.name.is(self.word)).copied()
+            "{name} has type {given}, but {user} requires {required}"
+        )?;
+        self.add_cause(term, &variables, out)
     }
 
     /// The limit that is exceeded.
@@ -86,12 +79,7 @@ impl<'w, 'a> Context<'w, 'a> {
 
     /// Whether the domain declares a total cost.
     fn is_cost_declared(self) -> bool {
-        for item in Items::of(self.section(b":functions")) {
-            if head(item).is_some_and(|head| head.is(b"total-cost")) {
-                return true;
-            }
-        }
-        false
+        !section(self.section(b":functions"), b"total-cost").is_empty()
     }
 
     /// Says the domain's name.

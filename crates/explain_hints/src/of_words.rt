@@ -1,7 +1,7 @@
 //! Sentences about texts that do not read as words (codes 1 to 6), and about unexpected words (codes 7 to 13).
 use crate::context::Context;
-use crate::declarations::action_name;
-use crate::lists::{Items, head, head_of, item_at, opening_of};
+use crate::declarations::{action_name, section};
+use crate::lists::{Items, head_of, item_at, opening_of};
 use crate::shown::{Name, NameList};
 use crate::texts::File;
 use std::alloc::{AllocError, Global};
@@ -117,19 +117,9 @@ fn absent(
 ) -> Result<Vec<&'static [u8]>, AllocError> {
     let mut found: Vec<&'static [u8]> = Vec::new(alloc);
     for keyword in keywords {
-        if !has_item(list, keyword) {
+        if section(list, keyword).is_empty() {
             found.push(*keyword)?;
         }
     }
     Ok(found)
-}
-
-/// Whether an item of the list has this head.
-fn has_item(list: &[Lexeme<'_>], keyword: &[u8]) -> bool {
-    for item in Items::of(list) {
-        if head(item).is_some_and(|head| head.is(keyword)) {
-            return true;
-        }
-    }
-    false
 }
