@@ -67,7 +67,7 @@ impl<'a> Context<'_, 'a> {
         }
         match self.at()? {
             0..=3 => self.of_beginning(),
-            at => self.of_form(at),
+            at => self.of_begun_inside(at).or(self.of_form(at)),
         }
     }
 

@@ -17,7 +17,34 @@ const INIT: &str = "`:init` is a list of facts";
 /// What to do about it.
 const INIT_ADVICE: &str = "Write the facts one after another, without `and`.";
 
+/// What is said of an effect with a condition.
+const WHEN: &str = "an effect with a condition is written `(when CONDITION EFFECT)`";
+
+/// What is said of a condition with a premise.
+const IMPLY: &str = "in a condition write `(imply PREMISE CONCLUSION)`";
+
+/// The parts of an action.
+static PARTS: [&[u8]; 3] = [b":parameters", b":precondition", b":effect"];
+
 impl<'a> Context<'_, 'a> {
+    /// The hint for a section, or for a part of an action, inside a list that cannot contain it.
+    pub(crate) fn of_begun_inside(self, at: usize) -> Option<Hint<'a>> {
+        let before = self.here().get(at.saturating_sub(1))?;
+        let first = self.here().get(at)?;
+        let keyword = if first.shape() == Shape::Open {
+            self.here().get(at.saturating_add(1))?.text()
+        } else {
+            self.word
+        };
+        let is_list = first.shape() == Shape::Open || before.shape() == Shape::Open;
+        let is_part = is_among(keyword, &PARTS);
+        if is_part == is_list || !keyword.starts_with(b":") || before.text().starts_with(b":") {
+            None
+        } else {
+            Some(Hint::of(Sentence::Before("a `)` may be missing before ", keyword)))
+        }
+    }
+
     /// What an unexpected piece with this index may mean in its list.
     pub(crate) fn of_form(self, at: usize) -> Option<Hint<'a>> {
         let here = self.here();
@@ -26,6 +53,7 @@ impl<'a> Context<'_, 'a> {
         match (piece.shape(), before.shape()) {
             (Shape::Open, Shape::Close) => self.of_second_list(at),
             (Shape::Open, Shape::Open) => self.of_first_list(at),
+            (Shape::Open, Shape::Run) if before.is(b"if") => Some(self.of_condition(at)),
             (Shape::Run, Shape::Open) => self.of_head(at, piece),
             (Shape::Run, Shape::Run) => self.of_later_word(piece, before),
             _ => None,
@@ -77,18 +105,30 @@ impl<'a> Context<'_, 'a> {
     /// The hint for a word at the head of a list.
     fn of_head(self, at: usize, piece: &Lexeme<'a>) -> Option<Hint<'a>> {
         let is_in_init = head_of(self.outer()).eq_ignore_ascii_case(b":init");
-        let keyword = keyword_before(self.here(), at).unwrap_or(b"");
         if piece.is(b"-") {
             Some(Hint::text(ARITHMETIC))
         } else if is_in_init && piece.is(b"and") {
             Some(Hint::advised(INIT, INIT_ADVICE))
-        } else if keyword.eq_ignore_ascii_case(b":effect") {
+        } else if self.is_in_effect(at) {
             of_effect(piece)
+        } else if !is_in_init && piece.is(b"when") {
+            Some(Hint::text(IMPLY))
         } else if self.is_of_variables() {
             of_name(piece)
         } else {
             None
         }
+    }
+
+    /// The hint for a condition in the list of the piece with this index.
+    fn of_condition(self, at: usize) -> Hint<'a> {
+        Hint::text(if self.is_in_effect(at) { WHEN } else { IMPLY })
+    }
+
+    /// Whether the piece with this index is in an effect.
+    fn is_in_effect(self, at: usize) -> bool {
+        let keyword = keyword_before(self.here(), at).unwrap_or(b"");
+        keyword.eq_ignore_ascii_case(b":effect")
     }
 
     /// Whether the list of the fault is one of variables: the parameters of an action, the variables of a quantifier, or after its head
@@ -165,7 +205,7 @@ fn of_effect<'a>(piece: &Lexeme<'a>) -> Option<Hint<'a>> {
             "Make the variable a parameter of the action.",
         ))
     } else if piece.is(b"imply") {
-        Some(Hint::text("an effect with a condition is written `(when CONDITION EFFECT)`"))
+        Some(Hint::text(WHEN))
     } else {
         None
     }
