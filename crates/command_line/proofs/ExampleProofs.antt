@@ -1,10 +1,10 @@
 -- The worked examples of words and their orders: each computes.
 use Rattle.std.proofs.Common.{refl}
 use Rattle.clap.proofs.OnLiterals.{clap_on_literals}
-use Rattle.std.specs.Prelude.{List, [], ◌∷◌, codes, Some}
+use Rattle.std.specs.Prelude.{List, [], ◌∷◌, codes, Some, false}
 use Rattle.std.specs.Path.{path_components, path_names}
 use Rattle.command_line.specs.Examples.{AreRead, plain, words}
-use Rattle.command_line.specs.Orders.{to_solve}
+use Rattle.command_line.specs.Orders.{to_check, to_solve}
 use Rattle.command_line.proofs.OrderLemmas.{no_command}
 
 pub are_read : AreRead
@@ -24,6 +24,8 @@ are_read = record {
   around = (refl, refl, refl);
   after_hyphens = (refl, refl, refl);
   one_hyphen = (refl, refl, refl);
+  from_input_to_output = (refl, refl, refl);
+  a_file_called_so = (refl, refl, refl);
   plus = (refl, refl, refl);
   to_validate = (refl, refl, refl);
   to_check = (refl, refl, refl);
@@ -45,6 +47,12 @@ are_read = record {
   the_domain_written_over = no_command (words (codes "--cert" ∷ codes "d" ∷ [])) (to_solve (codes "d") (codes "p") (record plain { cert = Some (codes "d") })) refl refl;
   the_problem_by_another_name = no_command (words (codes "--plan" ∷ codes "./x//../p" ∷ [])) (to_solve (codes "d") (codes "p") (record plain { plan = Some (codes "./x//../p") })) refl refl;
   one_file_for_both = no_command (words (codes "--plan" ∷ codes "x/./y" ∷ codes "--cert" ∷ codes "x//y" ∷ [])) (to_solve (codes "d") (codes "p") (record plain { plan = Some (codes "x/./y"); cert = Some (codes "x//y") })) refl refl;
+  two_from_the_input = no_command (codes "solve" ∷ codes "-" ∷ codes "-" ∷ []) (to_solve (codes "-") (codes "-") plain) refl refl;
+  a_certificate_and_a_plan_from_it = no_command (codes "check" ∷ codes "d" ∷ codes "p" ∷ codes "-" ∷ codes "--plan" ∷ codes "-" ∷ [])
+      (to_check (codes "d") (codes "p") (codes "-") (record { instances = 1000000; plan = Some (codes "-"); json = false; progress = false })) refl refl;
+  two_to_the_output = no_command (words (codes "--plan" ∷ codes "-" ∷ codes "--cert" ∷ codes "-" ∷ [])) (to_solve (codes "d") (codes "p") (record plain { plan = Some (codes "-"); cert = Some (codes "-") })) refl refl;
+  a_file_called_so_written_over = no_command (codes "solve" ∷ codes "./-" ∷ codes "p" ∷ codes "--cert" ∷ codes "x/../-" ∷ [])
+      (to_solve (codes "./-") (codes "p") (record plain { cert = Some (codes "x/../-") })) refl refl;
   a_plan_too_many = refl;
   a_plan_by_an_option = λ is. let asks = is.1.1 in absurd (cc);
   two_plans = λ is. let asks = is.1.1 in absurd (cc);

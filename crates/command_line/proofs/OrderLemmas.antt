@@ -19,7 +19,7 @@ use Rattle.clap.proofs.WalkLemmas.{both}
 use Rattle.clap.proofs.ValueTestLemmas.{accepts-Accepts, Accepts-accepts}
 use Rattle.command_line.specs.Limit.{is_limit, most}
 use Rattle.command_line.specs.Description.{optplan}
-use Rattle.command_line.specs.Orders.{Asks, IsCommand, Request, keeps_files, limit_of, request_in}
+use Rattle.command_line.specs.Orders.{Asks, IsCommand, Request, fits, limit_of, request_in}
 use Rattle.command_line.specs.declared.max_count.MaxCount.{MaxCount}
 
 -- words give only one order
@@ -27,11 +27,11 @@ pub one_request : (words : List Text) (a b : Request) → Asks words a → Asks 
 one_request words a b asks others =
     let same : ◌≡◌ {A = Option Request} (Some a) (Some b) = sym asks.1 ∙ others.1 in cc
 
--- words whose order would write over one of its files are no command
-pub no_command : (words : List Text) (request : Request) → option_and_then request_in (subcommand_of optplan words) ≡ Some request → keeps_files request ≡ false → IsCommand words → ⊥
+-- words whose files do not go together are no command
+pub no_command : (words : List Text) (request : Request) → option_and_then request_in (subcommand_of optplan words) ≡ Some request → fits request ≡ false → IsCommand words → ⊥
 no_command words request wants loses (other, asks) =
     let same : ◌≡◌ {A = Option Request} (Some request) (Some other) = sym wants ∙ asks.1 in
-    false≢true (sym loses ∙ ap keeps_files (same_Some request other same) ∙ asks.2)
+    false≢true (sym loses ∙ ap fits (same_Some request other same) ∙ asks.2)
 
 -- ---- limits
 
@@ -85,7 +85,7 @@ is_simple_too = refl
 
 module _ (app : App) (is : app ≡ optplan) (words : List Text) where
   pub asked : (m : ArgMatches) (request : Request) → (is_simple app ≡ true → subcommand_rows_of m ≡ subcommand_of app words)
-      → (is_simple_and_free app ≡ true → fault_of app words ≡ []) → Some request ≡ option_and_then request_in (subcommand_rows_of m) → keeps_files request ≡ true → Asks words request
+      → (is_simple_and_free app ≡ true → fault_of app words ≡ []) → Some request ≡ option_and_then request_in (subcommand_rows_of m) → fits request ≡ true → Asks words request
   asked m request matches taken wants keeps =
       let simple : is_simple app ≡ true = ap is_simple is ∙ is_simple_too in
       let free : is_simple_and_free app ≡ true = ap is_simple_and_free is ∙ optplan_is_simple in (
@@ -102,15 +102,15 @@ module _ (app : App) (is : app ≡ optplan) (words : List Text) where
       none ∙ ap (option_and_then request_in) (matches simple ∙ ap (λ a. subcommand_of a words) is) ∙ asks.1 in
       absurd (cc)
 
-  -- the words' order would write over one of its files
-  pub not_kept : (m : ArgMatches) (request : Request) → (is_simple app ≡ true → subcommand_rows_of m ≡ subcommand_of app words)
-      → Some request ≡ option_and_then request_in (subcommand_rows_of m) → keeps_files request ≡ false → IsCommand words → ⊥
-  not_kept m request matches wants loses (other, asks) =
+  -- the files of the words' order do not go together
+  pub unfit : (m : ArgMatches) (request : Request) → (is_simple app ≡ true → subcommand_rows_of m ≡ subcommand_of app words)
+      → Some request ≡ option_and_then request_in (subcommand_rows_of m) → fits request ≡ false → IsCommand words → ⊥
+  unfit m request matches wants loses (other, asks) =
       let simple : is_simple app ≡ true = ap is_simple is ∙ is_simple_too in
       let same : ◌≡◌ {A = Option Request} (Some request) (Some other) =
       wants ∙ ap (option_and_then request_in) (matches simple ∙ ap (λ a. subcommand_of a words) is) ∙ asks.1 in
       let one : request ≡ other = same_Some request other same in
-      false≢true (sym loses ∙ ap keeps_files one ∙ asks.2)
+      false≢true (sym loses ∙ ap fits one ∙ asks.2)
 
   pub refused : (e : Error) → (is_simple_and_free app ≡ true → HasKind (fault_of app words) e) → (kind_of e ≡ OutOfMemory → ⊥) → IsCommand words → ⊥
   refused e fails of_words (request, asks) =

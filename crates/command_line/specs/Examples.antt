@@ -46,6 +46,11 @@ pub record AreRead : Type 0 where
   pub after_hyphens : Asks (codes "solve" ∷ codes "--json" ∷ codes "--" ∷ codes "-d" ∷ codes "--states" ∷ [])
       (to_solve (codes "-d") (codes "--states") (record plain { json = true }))
   pub one_hyphen : Asks (codes "solve" ∷ codes "-" ∷ codes "p" ∷ []) (to_solve (codes "-") (codes "p") plain)
+  -- the standard input and output are two, and a file of the same name is another one
+  pub from_input_to_output : Asks (codes "solve" ∷ codes "-" ∷ codes "p" ∷ codes "--plan" ∷ codes "-" ∷ [])
+      (to_solve (codes "-") (codes "p") (record plain { plan = Some (codes "-") }))
+  pub a_file_called_so : Asks (codes "solve" ∷ codes "-" ∷ codes "./-" ∷ codes "--plan" ∷ codes "-" ∷ codes "--cert" ∷ codes ".//--" ∷ [])
+      (to_solve (codes "-") (codes "./-") (record plain { plan = Some (codes "-"); cert = Some (codes ".//--") }))
   -- a plus and zeros may come before the digits
   pub plus : AskToSolve (words (codes "--states" ∷ codes "+016777216" ∷ [])) (record plain { states = 16777216 })
   pub to_validate : Asks (codes "validate" ∷ codes "d" ∷ codes "p" ∷ codes "l" ∷ codes "--json" ∷ []) (to_validate (codes "d") (codes "p") (codes "l") true)
@@ -75,6 +80,10 @@ pub record AreRead : Type 0 where
   pub the_domain_written_over : IsCommand (words (codes "--cert" ∷ codes "d" ∷ [])) → ⊥
   pub the_problem_by_another_name : IsCommand (words (codes "--plan" ∷ codes "./x//../p" ∷ [])) → ⊥
   pub one_file_for_both : IsCommand (words (codes "--plan" ∷ codes "x/./y" ∷ codes "--cert" ∷ codes "x//y" ∷ [])) → ⊥
+  pub two_from_the_input : IsCommand (codes "solve" ∷ codes "-" ∷ codes "-" ∷ []) → ⊥
+  pub a_certificate_and_a_plan_from_it : IsCommand (codes "check" ∷ codes "d" ∷ codes "p" ∷ codes "-" ∷ codes "--plan" ∷ codes "-" ∷ []) → ⊥
+  pub two_to_the_output : IsCommand (words (codes "--plan" ∷ codes "-" ∷ codes "--cert" ∷ codes "-" ∷ [])) → ⊥
+  pub a_file_called_so_written_over : IsCommand (codes "solve" ∷ codes "./-" ∷ codes "p" ∷ codes "--cert" ∷ codes "x/../-" ∷ []) → ⊥
   pub a_plan_too_many : AreRefused (codes "explain" ∷ codes "d" ∷ codes "p" ∷ codes "l" ∷ codes "l" ∷ []) (UnknownArgument ∷ [])
   pub a_plan_by_an_option : IsCommand (codes "explain" ∷ codes "d" ∷ codes "p" ∷ codes "--plan" ∷ codes "l" ∷ []) → ⊥
   pub two_plans : IsCommand (codes "explain" ∷ codes "d" ∷ codes "p" ∷ codes "l" ∷ codes "--cert" ∷ codes "c" ∷ []) → ⊥

@@ -2,7 +2,9 @@ pub mod Limit
 pub mod Versions
 pub mod Description
 pub mod Described
+pub mod Streams
 pub mod OneFile
 pub mod Orders
 pub mod View
+pub mod Places
 pub mod Examples

@@ -1,9 +1,10 @@
 -- Whether two paths name one file, by what they say alone: no link is followed.
-use Rattle.std.specs.Prelude.{ℕ, zero, suc, Bool, if◌then◌else◌, List, [], ◌∷◌, replicate, reverse}
+use Rattle.std.specs.Prelude.{ℕ, zero, suc, Bool, not, ◌||◌, ◌&&◌, if◌then◌else◌, List, [], ◌∷◌, replicate, reverse}
 use Rattle.std.specs.Cmp.Lexicographic.{pointwise}
 use Rattle.std.specs.Path.{cur_dir, parent_dir, root_dir, path_components}
 use Rattle.std.specs.Str.{bytes_eq}
 use Rattle.clap.specs.Walk.{Text}
+use Rattle.command_line.specs.Streams.{is_stream}
 
 -- the name is left out if this many `..`, one at least, follow it, and one of them with it; `before` has what comes before it
 abbrev pub unless_left : Text → ℕ → (before : ℕ → List Text) → List Text
@@ -24,6 +25,10 @@ leave_out up (part ∷ before) =
 abbrev pub lean : Text → List Text
 lean path = leave_out 0 (reverse (path_components path))
 
--- both name one file
+-- both paths lead to one file
+abbrev pub is_one_path : Text → Text → Bool
+is_one_path one other = pointwise bytes_eq (lean one) (lean other)
+
+-- both name one file, and neither a stream
 abbrev pub is_one_file : Text → Text → Bool
-is_one_file one other = pointwise bytes_eq (lean one) (lean other)
+is_one_file one other = not (is_stream one || is_stream other) && is_one_path one other

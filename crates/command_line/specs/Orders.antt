@@ -1,5 +1,6 @@
 -- The order given by the words of a command line.
-use Rattle.std.specs.Prelude.{◌≡◌, ℕ, Bool, true, false, List, [], codes, Option, Some, None, not, ◌||◌, if◌then◌else◌, option_and_then}
+use Rattle.std.specs.Prelude.{◌≡◌, ℕ, Bool, true, false, List, [], ◌∷◌, ◌++◌, codes, Option, Some, None, nat_le, not, ◌||◌, ◌&&◌, if◌then◌else◌, option_and_then}
+use Rattle.std.specs.List.{list_any}
 use Rattle.std.specs.Option.{option_map, option_map_or}
 use Rattle.std.specs.Str.{bytes_eq}
 use Rattle.std.specs.Str.Parse.{without_leading_plus, digits_value}
@@ -10,6 +11,7 @@ use Rattle.clap.specs.ValueTests.{is_unsigned_in}
 use Rattle.command_line.specs.Description.{optplan}
 use Rattle.command_line.specs.Limit.{most}
 use Rattle.command_line.specs.OneFile.{is_one_file}
+use Rattle.command_line.specs.Streams.{is_stream, streams_in}
 use Rattle.command_line.specs.Versions.{version_with}
 
 -- the options of `solve`: the limits of states, of instances and, if there is one, of seconds, the latest version that the certificate
@@ -179,9 +181,42 @@ keeps_files (to_check domain problem cert asked) = true
 keeps_files (to_explain domain problem asked) = true
 keeps_files (to_explain_cert domain problem cert asked) = true
 
--- The words are accepted and give this order, which keeps its files.
+-- the file with this name, if one is given
+abbrev pub if_named : Option Text → List Text
+if_named None = []
+if_named (Some name) = name ∷ []
+
+-- the names of the files that are read
+abbrev pub inputs_of : Request → List Text
+inputs_of (to_validate domain problem plan json) = domain ∷ problem ∷ plan ∷ []
+inputs_of (to_solve domain problem asked) = domain ∷ problem ∷ []
+inputs_of (to_check domain problem cert asked) = domain ∷ problem ∷ cert ∷ if_named asked.plan
+inputs_of (to_explain domain problem asked) = domain ∷ problem ∷ if_named asked.plan
+inputs_of (to_explain_cert domain problem cert asked) = domain ∷ problem ∷ cert ∷ if_named asked.plan
+
+-- the names of the files that may be written
+abbrev pub written_by : Request → List Text
+written_by (to_solve domain problem asked) = if_named asked.plan ++ if_named asked.cert
+written_by (to_validate domain problem plan json) = []
+written_by (to_check domain problem cert asked) = []
+written_by (to_explain domain problem asked) = []
+written_by (to_explain_cert domain problem cert asked) = []
+
+-- at most one file is read from the standard input, and at most one is written to the standard output
+abbrev pub shares_no_stream : Request → Bool
+shares_no_stream request = nat_le (streams_in (inputs_of request)) 1 && nat_le (streams_in (written_by request)) 1
+
+-- A file is written to the standard output. The answer then goes to the standard error.
+abbrev pub fills_the_output : Request → Bool
+fills_the_output request = list_any is_stream (written_by request)
+
+-- the files of the order go together
+abbrev pub fits : Request → Bool
+fits request = keeps_files request && shares_no_stream request
+
+-- The words are accepted and give this order, whose files go together.
 abbrev pub Asks : List Text → Request → Type 0
-Asks words request = (fault_of optplan words ≡ []) × (option_and_then request_in (subcommand_of optplan words) ≡ Some request) × (keeps_files request ≡ true)
+Asks words request = (fault_of optplan words ≡ []) × (option_and_then request_in (subcommand_of optplan words) ≡ Some request) × (fits request ≡ true)
 
 -- the words are a command
 abbrev pub IsCommand : List Text → Type 0

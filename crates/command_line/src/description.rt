@@ -25,6 +25,7 @@ const USAGE: &str =
 const PROGRAM_HELP: &str =
     "N is a number from 1 to 16777216; the default is 1000000. Of --seconds it is at most 1000000; by default the time is not limited.
 Of --cert-version it is 2, 3 or 4.
+One file that is read may be `-`, the standard input. One that is written may be `-`, the standard output; the answer then goes to the standard error.
 
 Example:
   optplan solve domain.pddl problem.pddl --plan plan.txt --cert cert.txt

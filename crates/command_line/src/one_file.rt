@@ -1,11 +1,12 @@
 //! Whether an order would write over one of its own files.
 ghost use Rattle.std.specs.Prelude.{◌≡◌, ◌≤◌, not, IfOk, is_none, map, length};
 ghost use Rattle.std.specs.Borrow.{Bor};
-ghost use Rattle.command_line.specs.OneFile.{is_one_file, lean};
+ghost use Rattle.command_line.specs.OneFile.{is_one_file, is_one_path, lean};
 ghost use Rattle.command_line.specs.Orders.{are_of_one_file, is_of_file, keeps_files};
 ghost use Rattle.command_line.specs.View.{request_of, text_in, texts};
 
 use crate::order::Order;
+use crate::streams::is_stream;
 use std::alloc::{AllocError, Global};
 use std::path::{Component, Path};
 
@@ -72,9 +73,20 @@ fn are_of_one_file(
     }
 }
 
-/// Whether both names are of one file.
+/// Whether both names are of one file, and neither of a stream.
 fn is_one_file(alloc: Global, one: &str, other: &str) -> Result<bool, AllocError>
     ensures { IfOk result (λ is. is ≡ is_one_file one.now other.now) }
+{
+    if is_stream(one) || is_stream(other) {
+        Ok(false)
+    } else {
+        is_one_path(alloc, one, other)
+    }
+}
+
+/// Whether both paths lead to one file.
+fn is_one_path(alloc: Global, one: &str, other: &str) -> Result<bool, AllocError>
+    ensures { IfOk result (λ is. is ≡ is_one_path one.now other.now) }
 {
     let one = lean(alloc, one)?;
     let other = lean(alloc, other)?;

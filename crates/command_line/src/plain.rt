@@ -36,13 +36,13 @@ fn is_misleading(line: &str) -> bool {
 fn add_plain(line: &str, text: &mut String) -> Result<(), AllocError> {
     if let Some(before) = line.strip_suffix("invalid digit found in string") {
         let example = if before.contains("--cert-version") {
-            "2"
+            ", such as 2"
         } else if before.contains("--seconds") {
-            "10"
+            " of seconds, such as 10"
         } else {
-            "1000000"
+            ", such as 1000000"
         };
-        return write!(text, "{before}expected a whole number, such as {example}\n");
+        return write!(text, "{before}expected a whole number{example}\n");
     }
     if let Some(before) = line.strip_suffix("number too large to fit in target type") {
         return write!(text, "{before}the number is too large\n");

@@ -1,10 +1,10 @@
 //! From words to an order.
-ghost use Rattle.std.specs.Prelude.{◌≡◌, IfErr, IfOk, option_and_then, option_map};
+ghost use Rattle.std.specs.Prelude.{◌≡◌, IfErr, IfOk, is_none, option_and_then, option_map};
 ghost use Rattle.clap.specs.Matches.{found_of};
 ghost use Rattle.clap.specs.Simple.{subcommand_rows_of};
 ghost use Rattle.clap.specs.Walk.{first_of, rows_of};
 ghost use Rattle.command_line.specs.Examples.{AreRead};
-ghost use Rattle.command_line.specs.Orders.{Asks, IsCommand, cert_version_in, check_in, explain_cert_in, explain_files_in, explain_in, is_given, limit_in, limit_of, seconds_in, solve_in, trace_in, validate_in, request_in};
+ghost use Rattle.command_line.specs.Orders.{Asks, IsCommand, cert_version_in, check_in, explain_cert_in, explain_files_in, explain_in, fits, is_given, limit_in, limit_of, seconds_in, solve_in, trace_in, validate_in, request_in};
 ghost use Rattle.command_line.specs.Versions.{number_of};
 ghost use Rattle.command_line.specs.View.{IsOfWords, number_in, text_in, texts, request_of};
 
@@ -14,6 +14,7 @@ use crate::fault::WordsFault;
 use crate::max_count::MaxCount;
 use crate::one_file::overwritten;
 use crate::order::Order;
+use crate::streams::shared;
 use clap::error::ErrorKind;
 use clap::{ArgMatches, Error};
 use std::alloc::{AllocError, Global};
@@ -32,7 +33,8 @@ use std::alloc::{AllocError, Global};
 /// after `--` is a file name, even if it begins with a hyphen. A number is from 1 to 16,777,216, in decimal digits after an
 /// optional plus; the default is 1,000,000. Seconds are at most 1,000,000, and not limited by default. Versions of certificates are from
 /// 2 to 4, by default 4. A trace needs a plan, and `--plan` of `explain` needs `--cert`, which goes without the other two. The files that
-/// `solve` writes are two, and neither is one that it reads, by their names without `.`, `..` and doubled slashes. Words that ask for help
+/// `solve` writes are two, and neither is one that it reads, by their names without `.`, `..` and doubled slashes. The name `-` is that of
+/// the standard input or output: at most one file is read from the one, and at most one written to the other. Words that ask for help
 /// or the version are not an order: the fault's text is what they ask for.
 pub fn read_words<'a>(alloc: Global, words: &'a [&str]) -> Result<Order<'a>, WordsFault>
     ensures asks { IfOk result (λ order. Asks (texts words.entry.now) (request_of order)) }
@@ -42,9 +44,9 @@ pub fn read_words<'a>(alloc: Global, words: &'a [&str]) -> Result<Order<'a>, Wor
     let Some(order) = order_in(&matches) else {
         return Err(no_order(alloc, &matches));
     };
-    match overwritten(alloc, &order)? {
+    match unfit(alloc, &order)? {
         None => Ok(order),
-        Some(why) => Err(would_overwrite(alloc, why)),
+        Some(why) => Err(conflicting(alloc, why.as_str())),
     }
 }
 
@@ -62,8 +64,18 @@ fn no_order(alloc: Global, matches: &ArgMatches<'_>) -> WordsFault {
     }
 }
 
-/// The fault of an order that would write over one of its files.
-fn would_overwrite(alloc: Global, why: &'static str) -> WordsFault {
+/// Why the files of the order do not go together.
+fn unfit(alloc: Global, order: &Order<'_>) -> Result<Option<String>, AllocError>
+    ensures { IfOk result (λ why. fits (request_of order.now) ≡ is_none why) }
+{
+    match overwritten(alloc, order)? {
+        Some(why) => Ok(Some(String::from_str(alloc, why)?)),
+        None => shared(alloc, order),
+    }
+}
+
+/// The fault of an order whose files do not go together, for this reason.
+fn conflicting(alloc: Global, why: &str) -> WordsFault {
     match conflict(alloc, why) {
         Ok(error) => WordsFault::Words(error),
         Err(refused) => WordsFault::from(refused),
@@ -71,7 +83,7 @@ fn would_overwrite(alloc: Global, why: &'static str) -> WordsFault {
 }
 
 /// The error for arguments that do not go together, for this reason.
-fn conflict(alloc: Global, why: &'static str) -> Result<Error, AllocError> {
+fn conflict(alloc: Global, why: &str) -> Result<Error, AllocError> {
     program(alloc)?.error(ErrorKind::ArgumentConflict, why)
 }
 

@@ -2,7 +2,7 @@ use Rattle.std.proofs.Common.{ap, sym, ◌∙◌}
 use Rattle.std.specs.Prelude.{is_none, option_map}
 use Rattle.std.proofs.lemmas.Result.{err_from_is_err_and}
 use Rattle.command_line.specs.View.{texts, request_of}
-use Rattle.command_line.proofs.OrderLemmas.{asked, not_asked, not_kept, refused}
+use Rattle.command_line.proofs.OrderLemmas.{asked, not_asked, unfit, refused}
 use Rattle.command_line.proofs.reading.read_words.Goals as goal
 
 pub returns-in_err-matches-clause-refused : goal.returns-in_err-matches-clause-refused
@@ -19,10 +19,10 @@ pub returns-in-None-clause-asks : goal.returns-in-None-clause-asks
 returns-in-None-clause-asks c =
     asked _ c.in_ok-program.ensures (texts c.args.words.now) c.in_ok-matches.matches (request_of c.in-Some.order)
     (λ simple. (c.in_ok-matches.ensures.matches simple).1) c.in_ok-matches.ensures.kinds (sym (ap (option_map request_of) c.in-Some.is) ∙ c.order_in.ensures)
-    (c.in_ok-overwritten.ensures ∙ ap is_none c.in-None.is)
+    (c.in_ok-unfit.ensures ∙ ap is_none c.in-None.is)
 
 pub returns-clause-refused : goal.returns-clause-refused
 returns-clause-refused c = λ of_words.
-    not_kept _ c.in_ok-program.ensures (texts c.args.words.now) c.in_ok-matches.matches (request_of c.in-Some.order)
+    unfit _ c.in_ok-program.ensures (texts c.args.words.now) c.in_ok-matches.matches (request_of c.in-Some.order)
     (λ simple. (c.in_ok-matches.ensures.matches simple).1) (sym (ap (option_map request_of) c.in-Some.is) ∙ c.order_in.ensures)
-    (c.in_ok-overwritten.ensures ∙ ap is_none c.in-Some-2.is)
+    (c.in_ok-unfit.ensures ∙ ap is_none c.in-Some-2.is)

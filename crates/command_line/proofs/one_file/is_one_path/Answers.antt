@@ -4,7 +4,7 @@ use Rattle.std.specs.Str.{bytes_eq}
 use Rattle.command_line.specs.OneFile.{lean}
 use Rattle.command_line.specs.View.{texts}
 use Rattle.command_line.proofs.LeanLemmas.{same_texts}
-use Rattle.command_line.proofs.one_file.is_one_file.Goals as goal
+use Rattle.command_line.proofs.one_file.is_one_path.Goals as goal
 
 pub returns : goal.returns
 returns c =
