@@ -28,15 +28,11 @@ pub(crate) fn remarks_on(
     allowed: &[Word<'_>],
 ) -> Result<Remarks, NoMemory> {
     let word = context.word;
-    if is_suggested(word, allowed) {
-        return Ok(Remarks {
-            sentence: expected_sentence(alloc, word, allowed)?,
-            is_hint: false,
-            advice: None,
-            rewriter: None,
-        });
-    }
-    let hint = context.hint();
+    let (hint, rewriter) = if is_suggested(word, allowed) {
+        (None, None)
+    } else {
+        (context.hint(allowed), context.rewriter())
+    };
     let message = hint.and_then(|hint| hint.message);
     Ok(Remarks {
         sentence: match message {
@@ -46,7 +42,7 @@ pub(crate) fn remarks_on(
         },
         is_hint: message.is_some(),
         advice: hint.and_then(|hint| hint.advice),
-        rewriter: context.rewriter(),
+        rewriter,
     })
 }
 

@@ -1,5 +1,5 @@
 //! The words that may occur at a place, in a sentence.
-use explain_hints::{Name, is_near, separator};
+use explain_hints::{Name, has_word, is_near, separator};
 use std::alloc::{AllocError, Global};
 use tokens::{Kind, Word};
 
@@ -41,9 +41,9 @@ enum NamesAllowed {
 impl NamesAllowed {
     /// Which names are among these words.
     fn among(words: &[Word<'_>]) -> NamesAllowed {
-        if has(words, b"preference") {
+        if has_word(words, b"preference") {
             NamesAllowed::Any
-        } else if has(words, b"name") {
+        } else if has_word(words, b"name") {
             NamesAllowed::Unreserved
         } else {
             NamesAllowed::Suggested
@@ -65,10 +65,6 @@ fn add_words(alloc: Global, words: &[Word<'_>], out: &mut String) -> Result<(), 
         add_word(word, out)?;
     }
     Ok(())
-}
-
-fn has(words: &[Word<'_>], text: &[u8]) -> bool {
-    words.iter().any(|word| word.text() == text)
 }
 
 /// Whether a word that may occur at a place is reported: a name is not if any name may occur, or any unreserved one.

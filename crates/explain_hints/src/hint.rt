@@ -1,5 +1,5 @@
 //! The common mistakes behind faults, in sentences.
-use crate::shown::Name;
+use crate::shown::Shown;
 use std::fmt;
 
 /// The common mistake behind a fault.
@@ -26,6 +26,11 @@ impl<'a> Hint<'a> {
         Hint::of(Sentence::Text(text))
     }
 
+    /// What is wrong, in words of the file between two texts.
+    pub(crate) fn around(before: &'static str, words: &'a [u8], after: &'static str) -> Hint<'a> {
+        Hint::of(Sentence::Around(before, words, after))
+    }
+
     /// What is wrong, and what to do.
     pub(crate) fn advised(text: &'static str, advice: &'static str) -> Hint<'a> {
         Hint {
@@ -48,14 +53,8 @@ impl<'a> Hint<'a> {
 pub enum Sentence<'a> {
     /// This text.
     Text(&'static str),
-    /// This text and a name.
-    Before(&'static str, &'a [u8]),
-    /// A name and this text.
-    After(&'a [u8], &'static str),
-    /// A name in place of a variable.
-    NoQuestionMark(&'a [u8]),
-    /// A quantifier and its first variable, which is outside parentheses.
-    BareVariable(&'a [u8], &'a [u8]),
+    /// Words of the file between two texts.
+    Around(&'static str, &'a [u8], &'static str),
     /// A character beyond ASCII.
     Character(char),
 }
@@ -64,32 +63,10 @@ impl fmt::Display for Sentence<'_> {
     fn fmt<W: fmt::Write>(&self, f: &mut fmt::Formatter<W>) -> fmt::Result {
         match self {
             Sentence::Text(text) => write!(f, "{text}"),
-            Sentence::Before(text, name) => write!(f, "{text}{}", Name(name)),
-            Sentence::After(name, text) => write!(f, "{}{text}", Name(name)),
-            Sentence::NoQuestionMark(name) => {
-                let name = name.escape_ascii();
-                write!(f, "a variable begins with `?`; did you mean `?{name}`?")
-            }
-            Sentence::BareVariable(quantifier, variable) => {
-                write_quantified(quantifier, variable, f)
-            }
+            Sentence::Around(before, words, after) => write!(f, "{before}{}{after}", Shown(words)),
             Sentence::Character(character) => write_character(*character, f),
         }
     }
-}
-
-/// Writes the sentence about a quantifier whose variables are not in parentheses.
-fn write_quantified<W: fmt::Write>(
-    quantifier: &[u8],
-    variable: &[u8],
-    f: &mut fmt::Formatter<W>,
-) -> fmt::Result {
-    let quantifier = quantifier.escape_ascii();
-    let variable = variable.escape_ascii();
-    write!(
-        f,
-        "put the variables in parentheses: `({quantifier} ({variable} ..) ..)`"
-    )
 }
 
 /// Writes the sentence about a character beyond ASCII.

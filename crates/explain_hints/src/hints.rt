@@ -6,15 +6,15 @@ use crate::of_characters::of_character;
 use crate::of_runs::{is_comment_elsewhere, of_run};
 use crate::texts::File;
 use faults::Code;
-use tokens::{Lexeme, Shape};
+use tokens::{Lexeme, Shape, Word};
 
 impl<'a> Context<'_, 'a> {
-    /// The common mistake that explains the fault, if there is one.
-    pub fn hint(self) -> Option<Hint<'a>> {
+    /// The common mistake that explains the fault, if there is one, given the words that may occur in place of a refused one.
+    pub fn hint(self, allowed: &[Word<'_>]) -> Option<Hint<'a>> {
         match self.fault.code {
             Code::BadByte => self.of_character(),
             Code::BadWord => of_run(self.word),
-            Code::BadForm => self.of_unexpected(),
+            Code::BadForm => self.of_unexpected(allowed),
             Code::LeftOut => self.of_left_out(),
             Code::Unbalanced | Code::Trailing if self.begins_with_list() => self.of_beginning(),
             Code::UnknownRequirement => Some(Hint::advice(
@@ -57,7 +57,7 @@ impl<'a> Context<'_, 'a> {
     }
 
     /// What an unexpected word may mean.
-    fn of_unexpected(self) -> Option<Hint<'a>> {
+    fn of_unexpected(self, allowed: &[Word<'_>]) -> Option<Hint<'a>> {
         if self.here().is_empty() {
             return Some(Hint::text(if self.texts.text(self.fault.file).is_empty() {
                 "the file is empty"
@@ -67,7 +67,7 @@ impl<'a> Context<'_, 'a> {
         }
         match self.at()? {
             0..=3 => self.of_beginning(),
-            at => self.of_begun_inside(at).or(self.of_form(at)),
+            at => self.of_begun_inside(at).or(self.of_form(at, allowed)),
         }
     }
 
@@ -92,8 +92,7 @@ impl<'a> Context<'_, 'a> {
 
     /// What a text is that is not a plan.
     fn of_plan(self) -> Option<Hint<'a>> {
-        let is_ascii = self.word.iter().all(|byte| byte.is_ascii());
-        if !is_ascii {
+        if !self.word.is_ascii() {
             return self.of_character();
         }
         if self.texts.text(File::Plan).starts_with(b"pddl-cert ") {

@@ -4,7 +4,7 @@ ghost use Rattle.std.specs.Iterator.{at_most};
 
 use faults::NoMemory;
 use std::alloc::Global;
-use tokens::{Lexeme, Lexemes, Shape};
+use tokens::{Lexeme, Lexemes, Shape, Word};
 
 /// The parentheses and runs of a text, in order.
 ///
@@ -122,4 +122,19 @@ pub(crate) fn head<'a>(list: &[Lexeme<'a>]) -> Option<Lexeme<'a>> {
 /// Whether the word is one of these, regardless of case.
 pub(crate) fn is_among(word: &[u8], words: &[&[u8]]) -> bool {
     words.iter().any(|one| word.eq_ignore_ascii_case(one))
+}
+
+/// Whether one of these words is this.
+pub fn has_word(words: &[Word<'_>], text: &[u8]) -> bool {
+    words.iter().any(|word| word.text() == text)
+}
+
+/// The last keyword before the piece with this index.
+pub(crate) fn keyword_before<'a>(here: &[Lexeme<'a>], at: usize) -> Option<&'a [u8]> {
+    let before = here.get(..at)?;
+    let keyword = before
+        .iter()
+        .rev()
+        .find(|piece| piece.text().starts_with(b":"))?;
+    Some(keyword.text())
 }

@@ -1,9 +1,9 @@
 //! Hints for forms that the grammar does not have.
 use crate::context::Context;
-use crate::hint::{Hint, Sentence};
-use crate::lists::{head_of, is_among, item_at};
-use crate::of_runs::{ARITHMETIC, is_name};
-use tokens::{Lexeme, Shape};
+use crate::hint::Hint;
+use crate::lists::{has_word, head_of, is_among, keyword_before};
+use crate::of_runs::{ARITHMETIC, TYPE, is_name};
+use tokens::{Lexeme, Shape, Word};
 
 /// What is said of several formulas where one is required.
 const FORMULAS: &str = "put the formulas into one `(and ..)`";
@@ -23,39 +23,25 @@ const WHEN: &str = "an effect with a condition is written `(when CONDITION EFFEC
 /// What is said of a condition with a premise.
 const IMPLY: &str = "in a condition write `(imply PREMISE CONCLUSION)`";
 
-/// The parts of an action.
-static PARTS: [&[u8]; 3] = [b":parameters", b":precondition", b":effect"];
-
 impl<'a> Context<'_, 'a> {
-    /// The hint for a section, or for a part of an action, inside a list that cannot contain it.
-    pub(crate) fn of_begun_inside(self, at: usize) -> Option<Hint<'a>> {
-        let before = self.here().get(at.saturating_sub(1))?;
-        let first = self.here().get(at)?;
-        let keyword = if first.shape() == Shape::Open {
-            self.here().get(at.saturating_add(1))?.text()
-        } else {
-            self.word
-        };
-        let is_list = first.shape() == Shape::Open || before.shape() == Shape::Open;
-        let is_part = is_among(keyword, &PARTS);
-        if is_part == is_list || !keyword.starts_with(b":") || before.text().starts_with(b":") {
-            None
-        } else {
-            Some(Hint::of(Sentence::Before("a `)` may be missing before ", keyword)))
-        }
-    }
-
-    /// What an unexpected piece with this index may mean in its list.
-    pub(crate) fn of_form(self, at: usize) -> Option<Hint<'a>> {
+    /// What an unexpected piece with this index may mean in its list, given the words that may occur in its place.
+    pub(crate) fn of_form(self, at: usize, allowed: &[Word<'_>]) -> Option<Hint<'a>> {
         let here = self.here();
         let piece = here.get(at)?;
         let before = here.get(at.saturating_sub(1))?;
         match (piece.shape(), before.shape()) {
-            (Shape::Open, Shape::Close) => self.of_second_list(at),
             (Shape::Open, Shape::Open) => self.of_first_list(at),
-            (Shape::Open, Shape::Run) if before.is(b"if") => Some(self.of_condition(at)),
+            (Shape::Open, Shape::Run) if before.is(b"if") => {
+                Some(Hint::text(if self.is_in_effect(at) { WHEN } else { IMPLY }))
+            }
             (Shape::Run, Shape::Open) => self.of_head(at, piece),
+            (Shape::Run, _) if has_word(allowed, b"(") => self.of_bare_words(at),
+            (Shape::Run, Shape::Run) if self.word.starts_with(b":") && has_word(allowed, b"-") => {
+                Some(Hint::text(TYPE))
+            }
             (Shape::Run, Shape::Run) => self.of_later_word(piece, before),
+            (Shape::Run, Shape::Close) => self.of_second_list(at),
+            (Shape::Open, Shape::Close) => self.of_second_list(at),
             _ => None,
         }
     }
@@ -120,11 +106,6 @@ impl<'a> Context<'_, 'a> {
         }
     }
 
-    /// The hint for a condition in the list of the piece with this index.
-    fn of_condition(self, at: usize) -> Hint<'a> {
-        Hint::text(if self.is_in_effect(at) { WHEN } else { IMPLY })
-    }
-
     /// Whether the piece with this index is in an effect.
     fn is_in_effect(self, at: usize) -> bool {
         let keyword = keyword_before(self.here(), at).unwrap_or(b"");
@@ -149,9 +130,7 @@ impl<'a> Context<'_, 'a> {
     /// The hint for a word after another one.
     fn of_later_word(self, piece: &Lexeme<'a>, before: &Lexeme<'a>) -> Option<Hint<'a>> {
         let (word, last) = (piece.text(), before.text());
-        if is_among(last, &[b"forall", b"exists"]) && word.starts_with(b"?") {
-            return Some(Hint::of(Sentence::BareVariable(last, word)));
-        }
+        let is_type = self.section(b":types").iter().any(|one| one.is(word));
         let is_number = word.iter().all(|byte| byte.is_ascii_digit());
         let is_in_init = head_of(self.outer()).eq_ignore_ascii_case(b":init");
         if is_number && is_in_init && before.is(b"at") {
@@ -159,37 +138,17 @@ impl<'a> Context<'_, 'a> {
         } else if !self.is_of_variables() {
             None
         } else if last.starts_with(b"?") && last.ends_with(b"-") {
-            Some(Hint::of(Sentence::Before(
-                "a blank is missing before the `-` at the end of ",
+            Some(Hint::around(
+                "a blank is missing before the `-` at the end of `",
                 last,
-            )))
-        } else if last.starts_with(b"?") && self.is_type(piece) {
-            Some(Hint::of(Sentence::Before("a `-` is missing before the type ", word)))
+                "`",
+            ))
+        } else if last.starts_with(b"?") && is_type {
+            Some(Hint::around("a `-` is missing before the type `", word, "`"))
         } else {
             of_name(piece)
         }
     }
-
-    /// Whether the domain's `:types` have the name of this piece.
-    fn is_type(self, piece: &Lexeme<'_>) -> bool {
-        let domain = self.domain();
-        let Some(keyword) = domain.iter().position(|piece| piece.is(b":types")) else {
-            return false;
-        };
-        item_at(domain, keyword.saturating_sub(1))
-            .iter()
-            .any(|one| one.is(piece.text()))
-    }
-}
-
-/// The last keyword before the piece with this index.
-fn keyword_before<'a>(here: &[Lexeme<'a>], at: usize) -> Option<&'a [u8]> {
-    let before = here.get(..at)?;
-    let keyword = before
-        .iter()
-        .rev()
-        .find(|piece| piece.text().starts_with(b":"))?;
-    Some(keyword.text())
 }
 
 /// The hint for a word at the head of a list in an effect.
@@ -214,7 +173,11 @@ fn of_effect<'a>(piece: &Lexeme<'a>) -> Option<Hint<'a>> {
 /// The hint for a word in place of a variable.
 fn of_name<'a>(piece: &Lexeme<'a>) -> Option<Hint<'a>> {
     if is_name(piece.text()) {
-        Some(Hint::of(Sentence::NoQuestionMark(piece.text())))
+        Some(Hint::around(
+            "a variable begins with `?`; did you mean `?",
+            piece.text(),
+            "`?",
+        ))
     } else {
         None
     }

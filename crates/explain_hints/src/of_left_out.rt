@@ -47,9 +47,9 @@ impl<'a> Context<'_, 'a> {
     fn of_numbers(self) -> Option<Hint<'a>> {
         let word = self.word;
         if is_among(word, &[b"assign", b"decrease", b"scale-up", b"scale-down"]) {
-            let text = " is not supported: only the total cost changes, by `increase`";
+            let text = "` is not supported: only the total cost changes, by `increase`";
             return Some(Hint {
-                message: Some(Sentence::After(word, text)),
+                message: Some(Sentence::Around("`", word, text)),
                 advice: Some(
                     "If a number has few values, declare an object for each, and a predicate for the one that holds.",
                 ),

@@ -1,12 +1,12 @@
 //! Hints for runs of bytes that are no words.
-use crate::hint::{Hint, Sentence};
+use crate::hint::Hint;
 
 /// What is said of sums, products and differences.
 pub(crate) const ARITHMETIC: &str =
     "a cost is a number or a function of objects; sums and products are not supported";
 
 /// What is said of a `:` in place of the dash before a type.
-const TYPE: &str = "a type follows `-`, as in `?x - type`";
+pub(crate) const TYPE: &str = "a type follows `-`, as in `?x - type`";
 
 /// What a run that is no word may mean.
 pub(crate) fn of_run<'a>(run: &'a [u8]) -> Option<Hint<'a>> {
@@ -41,10 +41,11 @@ fn of_name<'a>(run: &'a [u8]) -> Option<Hint<'a>> {
         return Some(Hint::text("a variable begins with `?`, as in `?x`"));
     }
     match name {
-        [b'-', rest @ ..] if is_name(rest) => Some(Hint::of(Sentence::Before(
-            "a blank is missing after the `-` before ",
+        [b'-', rest @ ..] if is_name(rest) => Some(Hint::around(
+            "a blank is missing after the `-` before `",
             rest,
-        ))),
+            "`",
+        )),
         [b'0'..=b'9' | b'_', ..] => Some(Hint::text("a name begins with a letter")),
         [first, ..] if first.is_ascii_alphabetic() => Some(Hint::text(
             "a name may contain only letters, digits, `-` and `_`",

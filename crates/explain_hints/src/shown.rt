@@ -10,15 +10,25 @@ const LONGEST: usize = 80;
 /// The maximum number of names shown of a chain.
 const MOST_LINKS: usize = 12;
 
-/// A name in backquotes. Bytes that are not printable ASCII are shown as `\xNN`, and a long name is cut at the end.
+/// Bytes as they are shown: what is not printable ASCII as `\xNN`, and a long run cut at the end.
+#[derive(Clone, Copy)]
+pub(crate) struct Shown<'a>(pub(crate) &'a [u8]);
+
+impl fmt::Display for Shown<'_> {
+    fn fmt<W: fmt::Write>(&self, f: &mut fmt::Formatter<W>) -> fmt::Result {
+        let shown = &self.0[..self.0.len().min(LONGEST)];
+        let ending = if self.0.len() <= LONGEST { "" } else { "..." };
+        write!(f, "{}{ending}", shown.escape_ascii())
+    }
+}
+
+/// A name in backquotes, as it is shown.
 #[derive(Clone, Copy)]
 pub struct Name<'a>(pub &'a [u8]);
 
 impl fmt::Display for Name<'_> {
     fn fmt<W: fmt::Write>(&self, f: &mut fmt::Formatter<W>) -> fmt::Result {
-        let shown = &self.0[..self.0.len().min(LONGEST)];
-        let ending = if self.0.len() <= LONGEST { "" } else { "..." };
-        write!(f, "`{}{ending}`", shown.escape_ascii())
+        write!(f, "`{}`", Shown(self.0))
     }
 }
 
